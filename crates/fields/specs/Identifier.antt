@@ -1,0 +1,12 @@
+-- Two identifiers are the same exactly if their bytes are equal (01, Header fields and the patient identifier).
+use Prim.Native.Nat.{ℕ}
+use mathlib.Core.Bool.{Bool, true, false, _&&_}
+use mathlib.Core.List.{List, [], _∷_}
+use lib.Dec.{eqb}
+
+-- as many bytes in both, and each equal to the other's at its place
+unfoldable pub same : List ℕ → List ℕ → Bool
+same [] [] = true
+same [] (b ∷ bs) = false
+same (a ∷ l) [] = false
+same (a ∷ l) (b ∷ bs) = eqb a b && same l bs

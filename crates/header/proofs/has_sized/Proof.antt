@@ -1,0 +1,28 @@
+-- Where the tag stands once, the call answers by the rule of so many bytes; elsewhere the definition says false too.
+use mathlib.Core.Path.{sym}
+use borrow.Author.Needs.{needs}
+use Rattle.header.proofs.has_sized.Statement.{statement}
+use Rattle.header.proofs.has_sized.Tie as tie
+
+sole-named-requires : tie.Need-sole-named-requires
+sole-named-requires c κs = search needs
+
+enum-known-f : tie.Need-enum-known-f
+enum-known-f c = search needs
+
+size-is-requires : tie.Need-size-is-requires
+size-is-requires c κs = search needs
+
+enum-told : tie.Need-enum-told
+enum-told c = search needs
+
+returns : tie.Need-returns
+returns c = rw (sym (c .before .before .before .before .sole-named .ensures), c .before .before .f .given .1) (c .size-is .ensures)
+
+returns-2 : tie.Need-returns-2
+returns-2 c = rw (sym (c .before .before .sole-named .ensures), c .enum-told .given .1)
+
+pub has-sized-spec : {M : Type 1} → statement M
+has-sized-spec =
+    tie.close
+    (tie.spec sole-named-requires enum-known-f size-is-requires enum-told returns returns-2)

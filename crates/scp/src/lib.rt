@@ -1,0 +1,129 @@
+// The C boundary: each call passes on a chapter's call, on numbers and slices, with that call's contract and no `requires`.
+// A refusal is 01's number; with one, every other field is 0 and no lent element is changed.
+ghost use mathlib.Core.Path.{_≡_};
+ghost use Rattle.wire.specs.Check.{crcOf};
+ghost use Rattle.header.specs.Fields.{stepAt};
+ghost use Rattle.record.specs.Opening.{openRefusal, openCount, openNumbers};
+ghost use Rattle.fields.specs.Lookup.{fieldPlace, walkPlace};
+ghost use Rattle.fields.specs.Identifier.{same};
+ghost use Rattle.scp.specs.Answers.{partAt, shown, oneIf};
+use fields::Place;
+use header::Step;
+
+#[repr(C)]
+pub struct ScpOpened {
+    pub refusal: u8,
+    pub count: u32,
+}
+
+// A part of the record lent.
+#[repr(C)]
+pub struct ScpPart {
+    pub refusal: u8,
+    pub start: usize,
+    pub length: usize,
+}
+
+// A step of the walk: a field if `more` is 1, else the end.
+#[repr(C)]
+pub struct ScpStep {
+    pub more: u8,
+    pub tag: u8,
+    pub start: usize,
+    pub length: usize,
+    pub next: usize,
+}
+
+// A place as numbers.
+fn part_of(place: Place) -> ScpPart
+    ensures { λ r. ⌜ r ≡ partAt place ⌝ }
+{
+    match place {
+        Place::At(start, size) => ScpPart {
+            refusal: 0,
+            start,
+            length: size,
+        },
+        Place::Refused(number) => ScpPart {
+            refusal: number,
+            start: 0,
+            length: 0,
+        },
+    }
+}
+
+// The check of bytes.
+#[no_mangle]
+pub extern "C" fn scp_crc(bytes: &[u8]) -> u16
+    ensures { λ r. ⌜ r ≡ crcOf (now (bytes .entry)) ⌝ }
+{
+    wire::crc(bytes)
+}
+
+// Opening: three numbers for each pointer, its ID, length and index.
+#[no_mangle]
+pub extern "C" fn scp_open(rec: &[u8], pointers: &mut [u32; 192]) -> ScpOpened
+    ensures number { λ r. ⌜ r .refusal ≡ openRefusal (now (rec .entry)) ⌝ }
+    ensures count { λ r. ⌜ r .count ≡ openCount (now (rec .entry)) ⌝ }
+    ensures numbers { λ r. ⌜ now (pointers .exit) ≡ openNumbers (now (rec .entry)) (now (pointers .entry)) ⌝ }
+{
+    let opened = record::open(rec, pointers);
+    ScpOpened {
+        refusal: opened.refusal,
+        count: opened.count,
+    }
+}
+
+// A field by tag and occurrence, as a part of the record.
+#[no_mangle]
+pub extern "C" fn scp_field(rec: &[u8], tag: u8, occurrence: usize) -> ScpPart
+    ensures { λ r. ⌜ r ≡ partAt (fieldPlace (now (rec .entry)) tag occurrence) ⌝ }
+{
+    part_of(fields::field_place(rec, tag, occurrence))
+}
+
+// Two identifiers are the same: 1, else 0.
+#[no_mangle]
+pub extern "C" fn scp_same_identifier(a: &[u8], b: &[u8]) -> u8
+    ensures { λ r. ⌜ r ≡ oneIf (same (now (a .entry)) (now (b .entry))) ⌝ }
+{
+    if fields::same_identifier(a, b) {
+        return 1;
+    }
+    0
+}
+
+// Section 1, over which the fields are walked.
+#[no_mangle]
+pub extern "C" fn scp_walk_start(rec: &[u8]) -> ScpPart
+    ensures { λ r. ⌜ r ≡ partAt (walkPlace (now (rec .entry))) ⌝ }
+{
+    part_of(fields::walk_place(rec))
+}
+
+// A step of the walk.
+#[no_mangle]
+pub extern "C" fn scp_walk_step(section: &[u8], at: usize) -> ScpStep
+    ensures { λ r. ⌜ r ≡ shown at (stepAt (now (section .entry)) at) ⌝ }
+{
+    match header::step_at(section, at) {
+        Step::Found(f) => {
+            let start = f.start;
+            let end = f.end;
+            ScpStep {
+                more: 1,
+                tag: f.tag,
+                start,
+                length: end - start,
+                next: end,
+            }
+        }
+        Step::End => ScpStep {
+            more: 0,
+            tag: 0,
+            start: 0,
+            length: 0,
+            next: at,
+        },
+    }
+}

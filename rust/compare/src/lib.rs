@@ -1,0 +1,32 @@
+//! Holds the proved library against the judge, an independent implementation of the same rules.
+//!
+//! Inputs are made by the judge's generator from a seed ([`inputs`]), or laid out by hand at the edges of the rules
+//! ([`edges`]); every call is made by both on each of them, in memory with guards around it ([`calls`]); and every answer
+//! is counted ([`tally`]).
+
+pub mod calls;
+mod draft;
+pub mod edges;
+pub mod inputs;
+mod lent;
+pub mod samples;
+pub mod tally;
+
+use judge::make::Rng;
+
+use inputs::Kind;
+use tally::Tally;
+
+/// Compares on `count` inputs that the seed fixes. The counts, or what differs first and on which input.
+pub fn run(seed: u64, count: u64) -> Result<Tally, String> {
+    let mut tally = Tally::default();
+    for number in 0..count {
+        let mut rng = Rng::new(seed.wrapping_add(number.wrapping_mul(0x1_0000_0001)));
+        let kind = Kind::of(number);
+        let input = inputs::make(kind, &mut rng);
+        tally.input(kind);
+        calls::compare(&input, &mut rng, &mut tally)
+            .map_err(|difference| format!("seed {seed}, input {number} ({kind}): {difference}"))?;
+    }
+    Ok(tally)
+}

@@ -1,0 +1,86 @@
+//! Counting inputs, calls and answers.
+
+use std::collections::BTreeMap;
+use std::fmt;
+
+use crate::inputs::Kind;
+
+/// The calls that are compared.
+#[derive(Clone, Copy, Debug, PartialEq, Eq, PartialOrd, Ord)]
+pub enum Call {
+    /// `scp_open`
+    Open,
+    /// `scp_field`
+    Field,
+    /// `scp_walk_start`
+    WalkStart,
+    /// `scp_walk_step`
+    WalkStep,
+    /// `scp_same_identifier`
+    SameIdentifier,
+    /// `scp_crc`
+    Crc,
+}
+
+/// How many inputs of each kind there were, and how often each call answered what.
+#[derive(Default)]
+pub struct Tally {
+    inputs: BTreeMap<&'static str, u64>,
+    answers: BTreeMap<(Call, u8), u64>,
+}
+
+impl Tally {
+    /// Counts an input.
+    pub fn input(&mut self, kind: Kind) {
+        *self.inputs.entry(kind.name()).or_default() += 1;
+    }
+
+    /// Counts an answer of a call: 0, or the refusal.
+    pub fn answer(&mut self, call: Call, number: u8) {
+        *self.answers.entry((call, number)).or_default() += 1;
+    }
+
+    /// The numbers among these that no call answered.
+    pub fn never_reached(&self, numbers: &[u8]) -> Vec<u8> {
+        let reached = |number| self.answers.keys().any(|answer| answer.1 == number);
+        let missing = numbers.iter().filter(|&&number| !reached(number));
+        missing.copied().collect()
+    }
+}
+
+impl fmt::Display for Tally {
+    fn fmt(&self, f: &mut fmt::Formatter<'_>) -> fmt::Result {
+        let total: u64 = self.inputs.values().sum();
+        let kinds: Vec<_> = self
+            .inputs
+            .iter()
+            .map(|(kind, count)| format!("{count} {kind}"))
+            .collect();
+        writeln!(f, "compare: {total} inputs ({})", kinds.join(", "))?;
+        for (call, count, words) in self.calls() {
+            writeln!(f, "  {:16}{count:>9}  {words}", format!("{call:?}"))?;
+        }
+        let all: u64 = self.answers.values().sum();
+        write!(f, "compare: {all} answers, all as the judge's")
+    }
+}
+
+impl Tally {
+    /// For each call, how often it was made, and how often it answered each number.
+    fn calls(&self) -> Vec<(Call, u64, String)> {
+        let mut calls: Vec<(Call, u64, Vec<String>)> = Vec::new();
+        for (&(call, number), count) in &self.answers {
+            if calls.last().map(|last| last.0) != Some(call) {
+                calls.push((call, 0, Vec::new()));
+            }
+            if let Some((_, total, words)) = calls.last_mut() {
+                *total += count;
+                words.push(format!("{number}: {count}"));
+            }
+        }
+        calls
+            .into_iter()
+            .map(|(call, total, words)| (call, total, words.join("  ")))
+            .collect()
+    }
+}

@@ -1,0 +1,28 @@
+//! The records at the edges of the rules: the library and the judge both give each what was written down for it.
+
+use compare::calls;
+use compare::edges;
+use compare::tally::Tally;
+use judge::make::Rng;
+
+#[test]
+fn each_edge_is_on_its_side() {
+    let edges = edges::all();
+    println!("{} edges", edges.len());
+    for edge in edges {
+        let name = edge.name;
+        let judged = judge::open(&edge.record).err().unwrap_or(0);
+        assert_eq!(judged, edge.refusal, "{name}, by the judge");
+        let opened = scp::open(&edge.record).map_or_else(scp::Refusal::number, |_| 0);
+        assert_eq!(opened, edge.refusal, "{name}, by the library");
+    }
+}
+
+#[test]
+fn all_calls_agree_at_the_edges() {
+    let mut rng = Rng::new(3);
+    for edge in edges::all() {
+        let answer = calls::compare(&edge.record, &mut rng, &mut Tally::default());
+        assert_eq!(answer, Ok(()), "{}", edge.name);
+    }
+}

@@ -1,0 +1,206 @@
+//! A lead's bits: taken from a stream value by value, and put into one (01, Code tables; Leads and
+//! samples).
+
+use crate::tables::{Meaning, Structure, Tables};
+
+/// The bits of a stream that are not taken yet, the most significant bit of a byte first.
+#[derive(Clone, Copy, Debug)]
+pub struct Bits<'a> {
+    bytes: &'a [u8],
+    taken: usize,
+}
+
+impl<'a> Bits<'a> {
+    pub fn new(bytes: &'a [u8]) -> Self {
+        Bits { bytes, taken: 0 }
+    }
+
+    pub fn left(&self) -> usize {
+        self.bytes.len() * 8 - self.taken
+    }
+
+    /// The next 32 bits, the first on top, filled up with zeros past the end.
+    fn next_32(&self) -> u32 {
+        let first = self.taken / 8;
+        let byte = |at: usize| u64::from(self.bytes.get(at).copied().unwrap_or(0));
+        let five = (first..first + 5).fold(0, |sum, at| sum << 8 | byte(at));
+        (five >> (8 - self.taken % 8)) as u32
+    }
+
+    fn skip(&mut self, count: u32) {
+        self.taken += count as usize;
+    }
+
+    /// The next 1 to 16 bits as a number in two's complement.
+    fn signed(&mut self, count: u32) -> Option<i32> {
+        if self.left() < count as usize {
+            return None;
+        }
+        let value = self.next_32() as i32 >> (32 - count);
+        self.skip(count);
+        Some(value)
+    }
+
+    /// The meaning of the next code of this table.
+    fn code(&mut self, table: &[Structure]) -> Option<Meaning> {
+        let (next, left) = (self.next_32(), self.left());
+        let matched = table
+            .iter()
+            .find(|structure| structure.matches(next, left))?;
+        self.skip(matched.prefix_bits);
+        Some(matched.meaning)
+    }
+}
+
+/// Reads values one after another, by tables or, without Section 2, of two signed bytes each.
+#[derive(Clone, Copy, Debug)]
+pub struct Values<'a> {
+    bits: Bits<'a>,
+    tables: Option<&'a Tables>,
+    /// The current table, counted from 1.
+    table: usize,
+}
+
+impl<'a> Values<'a> {
+    /// Each lead starts in table 1.
+    pub fn new(stream: &'a [u8], tables: Option<&'a Tables>) -> Self {
+        Values {
+            bits: Bits::new(stream),
+            tables,
+            table: 1,
+        }
+    }
+
+    /// The next value; `None` where its code matches nothing or runs out.
+    pub fn next(&mut self) -> Option<i32> {
+        match self.tables {
+            Some(tables) => self.next_by(tables),
+            None => self.next_two_bytes(),
+        }
+    }
+
+    pub fn bits_left(&self) -> usize {
+        self.bits.left()
+    }
+
+    /// A value ends the step; a switch carries on in its table.
+    fn next_by(&mut self, tables: &Tables) -> Option<i32> {
+        loop {
+            let table = tables.get(self.table.checked_sub(1)?)?;
+            match self.bits.code(table)? {
+                Meaning::Value(value) => return Some(value.into()),
+                Meaning::Remainder(bits) => return self.bits.signed(bits),
+                Meaning::Switch(table) => self.table = table,
+            }
+        }
+    }
+
+    fn next_two_bytes(&mut self) -> Option<i32> {
+        if self.bits.left() < 16 {
+            return None;
+        }
+        let lower = self.bits.signed(8)? & 0xFF;
+        let upper = self.bits.signed(8)?;
+        Some(upper << 8 | lower)
+    }
+}
+
+/// A stream as it is put together.
+#[derive(Clone, Debug, Default)]
+pub struct Put {
+    bytes: Vec<u8>,
+    bits: usize,
+}
+
+impl Put {
+    pub fn bits(&self) -> usize {
+        self.bits
+    }
+
+    /// The stream, its last byte filled up with zeros.
+    pub fn bytes(self) -> Vec<u8> {
+        self.bytes
+    }
+
+    /// The code of this structure, with the value in its remainder if it has one.
+    pub fn code(&mut self, structure: &Structure, value: i32) {
+        self.top_bits(structure.prefix, structure.prefix_bits);
+        if let Meaning::Remainder(bits) = structure.meaning {
+            self.top_bits((value as u32) << (32 - bits), bits);
+        }
+    }
+
+    /// The top so many bits, 1 to 32.
+    pub fn top_bits(&mut self, from: u32, count: u32) {
+        for place in 0..count {
+            let bit = from >> (31 - place) & 1;
+            if self.bits == 8 * self.bytes.len() {
+                self.bytes.push(0);
+            }
+            if let Some(last) = self.bytes.last_mut() {
+                *last |= (bit as u8) << (7 - self.bits % 8);
+            }
+            self.bits += 1;
+        }
+    }
+}
+
+#[cfg(test)]
+mod tests {
+    use super::{Put, Values};
+    use crate::tables::default_table;
+    use crate::vectors::{examples, tables_named};
+
+    #[test]
+    fn streams_read_to_their_values() {
+        for example in examples().iter().filter(|example| example.kind != "none") {
+            let mut values = Values::new(&example.bytes, Some(&example.tables));
+            for &value in &example.values {
+                assert_eq!(values.next(), Some(value));
+            }
+            assert_eq!(values.bits_left(), example.bytes.len() * 8 - example.bits);
+        }
+    }
+
+    #[test]
+    fn p3_first_64_bits() {
+        let mut put = Put::default();
+        for value in [14, 18, 0, -4, -9, -1, 5] {
+            let codes = default_table();
+            let code = codes.iter().find(|code| code.gives(value)).expect("a code");
+            put.code(code, value);
+        }
+        assert_eq!(put.bits(), 71);
+        let first = [0xFF, 0x83, 0xBF, 0xE1, 0x27, 0xBF, 0xF7, 0xBD];
+        assert_eq!(put.bytes()[..8], first);
+    }
+
+    #[test]
+    fn remainders_are_signed_and_nothing_is_added() {
+        let tables = tables_named("example");
+        let value = |bytes: &[u8]| Values::new(bytes, Some(&tables)).next();
+        assert_eq!(value(&[0xF0, 0xD0]), Some(13));
+        assert_eq!(value(&[0xFF, 0xF0]), Some(-1));
+        assert_eq!(value(&[0xF8, 0x00]), Some(-128));
+    }
+
+    #[test]
+    fn codes_that_match_nothing_or_run_out() {
+        let tables = tables_named("example");
+        let value = |bytes: &[u8]| Values::new(bytes, Some(&tables)).next();
+        assert_eq!(value(&[]), None);
+        assert_eq!(value(&[0xFF]), None, "cut in the remainder");
+        assert_eq!(value(&[0xEF, 0xDF]), None, "switches to the end");
+        let one = vec![vec![tables[0][4]]];
+        assert_eq!(Values::new(&[0x80], Some(&one)).next(), None);
+    }
+
+    #[test]
+    fn two_signed_bytes_without_section_2() {
+        let mut values = Values::new(&[0xE8, 0x03, 0x18, 0xFC, 0x00, 0x80, 0xFF], None);
+        assert_eq!(values.next(), Some(1000));
+        assert_eq!(values.next(), Some(-1000));
+        assert_eq!(values.next(), Some(-32_768));
+        assert_eq!(values.next(), None);
+    }
+}

@@ -1,0 +1,102 @@
+//! The generator: sound records are accepted and read to what was put in, and every row of the
+//! table is reached.
+
+use judge::make::{self, Rng};
+use judge::{breaks, encode_lead, lead, open, read_lead, write_record};
+
+/// Room for any lead and any beat.
+const ROOM: usize = 65_536;
+
+#[test]
+fn sound_records_read_to_what_was_put_in() {
+    for seed in 0..10_000 {
+        let made = make::made(&mut Rng::new(seed));
+        assert!(open(&made.record).is_ok(), "seed {seed}");
+        assert!(!(1..=9).any(|row| breaks(&made.record, row)), "seed {seed}");
+        for (at, lead) in made.leads.iter().enumerate() {
+            let read = read_lead(&made.record, at + 1, lead.samples.len(), made.work);
+            let read = read.unwrap_or_else(|refused| panic!("seed {seed}, lead {at}: {refused:?}"));
+            assert!(read.samples == lead.samples, "seed {seed}, lead {at}");
+            assert_eq!((read.first, read.id), (lead.first, lead.id));
+            assert_eq!((read.step, read.interval), (made.step, made.interval));
+            assert_eq!(
+                (read.flags, read.work_cleared),
+                (made.flags, made.flags & 1 == 1)
+            );
+        }
+        assert_eq!(lead(&made.record, made.leads.len() + 1), Err(10));
+    }
+}
+
+/// How often each number comes out of opening, of all leads, and of a place and a room that no lead
+/// has.
+fn count(record: &[u8], counts: &mut [usize; 18]) {
+    let mut note = |number: u8| counts[usize::from(number)] += 1;
+    let leads = lead(record, 1).map_or(0, |entry| entry.leads as usize);
+    note(open(record).err().unwrap_or(0));
+    for place in 0..=leads + 1 {
+        note(read_lead(record, place, ROOM, ROOM).map_or_else(|refused| refused.number, |_| 0));
+    }
+    note(read_lead(record, 1, 0, ROOM).map_or_else(|refused| refused.number, |_| 0));
+}
+
+#[test]
+fn every_row_is_reached() {
+    let mut counts = [0; 18];
+    for seed in 0..3_000 {
+        count(&make::damaged(&mut Rng::new(seed)), &mut counts);
+    }
+    println!("{counts:?}");
+    for (row, &times) in counts.iter().enumerate().take(15) {
+        assert!(
+            times > 100,
+            "row {row} came out {times} times of {counts:?}"
+        );
+    }
+}
+
+#[test]
+fn aimed_damage_reaches_its_row() {
+    for row in 1..=14 {
+        let mut hits = 0;
+        let mut all = [0; 18];
+        for seed in 0..500 {
+            let mut counts = [0; 18];
+            count(&make::aimed(&mut Rng::new(seed), row), &mut counts);
+            hits += usize::from(counts[usize::from(row)] > 0);
+            (0..18).for_each(|number| all[number] += counts[number]);
+        }
+        println!("{row}: {hits} {all:?}");
+        assert!(
+            hits > 250,
+            "row {row} came out for {hits} of 500 records: {all:?}"
+        );
+    }
+}
+
+#[test]
+fn every_row_of_the_writer_is_reached() {
+    let mut encoding = [0; 18];
+    let mut writing = [0; 18];
+    for seed in 0..3_000 {
+        let lead = make::to_encode(&mut Rng::new(seed));
+        let call = encode_lead(
+            &lead.section2,
+            &lead.samples,
+            lead.order,
+            lead.work_len,
+            lead.out_len,
+        );
+        encoding[call.map_or_else(|refused| usize::from(refused.number), |_| 0)] += 1;
+        let record = make::to_write(&mut Rng::new(seed));
+        let call = write_record(&record.writing(), record.work_len, record.out_len);
+        writing[call.map_or_else(|refused| usize::from(refused.number), |_| 0)] += 1;
+    }
+    println!("{encoding:?} {writing:?}");
+    for row in [0, 7, 11, 15, 16, 17] {
+        assert!(encoding[row] > 3, "row {row} of {encoding:?}");
+    }
+    for row in [0, 6, 7, 11, 15, 16, 17] {
+        assert!(writing[row] > 3, "row {row} of {writing:?}");
+    }
+}

@@ -1,0 +1,339 @@
+//! Single rules, one record each, where a number is easily taken for another.
+
+use judge::make::{mend, mend_size};
+use judge::{field, lead, open, read_lead};
+
+/// Sections with their data, laid one after another behind twelve pointers.
+#[derive(Clone)]
+struct Record(Vec<(u16, Vec<u8>)>);
+
+impl Record {
+    /// Leads 1 and 2 of samples 1 to 3 in two bytes each, order 0.
+    fn plain() -> Self {
+        let section_3 = [&[2, 0][..], &SPAN, &SPAN].concat();
+        let section_6 = [&STEP_INTERVAL[..], &[0, 0, 6, 0, 6, 0], &SAMPLES, &SAMPLES].concat();
+        Record(vec![
+            (1, SECTION_1.to_vec()),
+            (3, section_3),
+            (6, section_6),
+        ])
+    }
+
+    /// The same with a subtracted beat of N 2 and F 1 that is 10 20 in both leads, added to samples
+    /// 2 and 3.
+    fn beaten() -> Self {
+        let zone = [0, 0, 2, 0, 0, 0, 2, 0, 0, 0, 3, 0, 0, 0];
+        let section_4 = [&[4, 0, 1, 0, 1, 0][..], &zone].concat();
+        let beat = [10, 0, 20, 0];
+        let section_5 = [&STEP_INTERVAL[..], &[0, 9, 4, 0, 4, 0], &beat, &beat].concat();
+        let mut record = Record::plain();
+        record.data(3)[1] = 1;
+        record.0.insert(2, (4, section_4));
+        record.0.insert(3, (5, section_5));
+        record
+    }
+
+    fn data(&mut self, id: u16) -> &mut Vec<u8> {
+        let section = self.0.iter_mut().find(|section| section.0 == id);
+        &mut section.expect("the section").1
+    }
+
+    fn without(mut self, id: u16) -> Self {
+        self.0.retain(|section| section.0 != id);
+        self
+    }
+
+    fn with(mut self, id: u16, data: &[u8]) -> Self {
+        self.0.push((id, data.to_vec()));
+        self
+    }
+
+    fn changed(mut self, id: u16, at: usize, byte: u8) -> Self {
+        self.data(id)[at] = byte;
+        self
+    }
+
+    fn bytes(&self) -> Vec<u8> {
+        let mut bytes = [&[0; 10][..], &[136, 0, 0, 0, 0, 0], b"SCPECG"].concat();
+        for id in 0..12 {
+            bytes.extend([id, 0, 0, 0, 0, 0, 0, 0, 0, 0]);
+        }
+        bytes[24] = 136;
+        bytes[28] = 7;
+        for (id, data) in &self.0 {
+            let length = 16 + data.len() as u32;
+            let pointer = 22 + 10 * usize::from(*id);
+            let index = bytes.len() as u32 + 1;
+            bytes[pointer + 2..pointer + 6].copy_from_slice(&length.to_le_bytes());
+            bytes[pointer + 6..pointer + 10].copy_from_slice(&index.to_le_bytes());
+            let start = [
+                &[0; 2][..],
+                &id.to_le_bytes(),
+                &length.to_le_bytes(),
+                &[0; 8],
+            ];
+            bytes.extend(start.concat());
+            bytes.extend(data);
+        }
+        mended(bytes)
+    }
+
+    /// What reading this lead gives, with room for all.
+    fn read(&self, place: usize) -> Result<Vec<i16>, u8> {
+        let read = read_lead(&self.bytes(), place, 3, 2);
+        read.map(|lead| lead.samples)
+            .map_err(|refused| refused.number)
+    }
+}
+
+/// Identifier 7, and the other fields that must stand.
+const SECTION_1: [u8; 24] = [
+    2, 2, 0, 0x37, 0, 14, 0, 0, 25, 4, 0, 1, 2, 3, 4, 26, 3, 0, 1, 2, 3, 255, 0, 0,
+];
+/// First 1, last 3, ID 8.
+const SPAN: [u8; 9] = [1, 0, 0, 0, 3, 0, 0, 0, 8];
+/// Step 5000, interval 2000.
+const STEP_INTERVAL: [u8; 4] = [0x88, 0x13, 0xD0, 0x07];
+const SAMPLES: [u8; 6] = [1, 0, 2, 0, 3, 0];
+
+fn mended(mut bytes: Vec<u8>) -> Vec<u8> {
+    mend_size(&mut bytes);
+    mend(&mut bytes);
+    bytes
+}
+
+fn opened(bytes: &[u8]) -> u8 {
+    open(bytes).err().unwrap_or(0)
+}
+
+#[test]
+fn the_records_are_sound() {
+    assert_eq!(Record::plain().read(1), Ok(vec![1, 2, 3]));
+    assert_eq!(Record::plain().read(2), Ok(vec![1, 2, 3]));
+    assert_eq!(Record::beaten().read(1), Ok(vec![1, 12, 23]));
+    assert_eq!(Record::beaten().read(2), Ok(vec![1, 12, 23]));
+}
+
+#[test]
+fn sections_may_lie_anywhere() {
+    let mut bytes = Record::plain().bytes();
+    let last = bytes.len() - 38;
+    bytes.insert(last, 0xAA);
+    bytes[22 + 60 + 6] += 1;
+    bytes.push(0xBB);
+    let bytes = mended(bytes);
+    assert_eq!(opened(&bytes), 0);
+    assert_eq!(lead(&bytes, 2).map(|entry| entry.bytes), Ok(6));
+}
+
+#[test]
+fn section_0_gives_3_and_its_check_alone_5() {
+    let sound = Record::plain().bytes();
+    for (at, byte) in [
+        (8, 1),
+        (10, 135),
+        (10, 146),
+        (16, b's'),
+        (24, 0),
+        (28, 8),
+        (32, 2),
+    ] {
+        let mut bytes = sound.clone();
+        bytes[at] = byte;
+        assert_eq!(opened(&mended(bytes)), 3, "byte {at}");
+    }
+    let mut bytes = sound.clone();
+    bytes[6] ^= 1;
+    let check = judge::crc(&bytes[2..]).to_le_bytes();
+    bytes[..2].copy_from_slice(&check);
+    assert_eq!(opened(&bytes), 5);
+}
+
+#[test]
+fn places_and_headers_give_4() {
+    let least = Record(Vec::new()).bytes();
+    assert_eq!((least.len(), opened(&least)), (142, 4));
+    assert_eq!(opened(&Record::plain().without(1).bytes()), 4);
+    let sound = Record::plain().bytes();
+    let section_3 = 22 + 30;
+    for (at, byte) in [
+        (section_3 + 2, 37),
+        (section_3 + 2, 14),
+        (section_3 + 6, 143),
+        (section_3 + 6, 7),
+    ] {
+        let mut bytes = sound.clone();
+        bytes[at] = byte;
+        assert_eq!(opened(&mended(bytes)), 4, "byte {at}");
+    }
+}
+
+#[test]
+fn absent_sections_have_any_index() {
+    let mut bytes = Record::plain().bytes();
+    bytes[22 + 20 + 6..22 + 20 + 10].fill(0xFF);
+    let bytes = mended(bytes);
+    assert_eq!(open(&bytes).map(|pointers| pointers[2].index), Ok(u32::MAX));
+}
+
+#[test]
+fn section_2_is_judged_before_leads_and_never_by_opening() {
+    for data in [&[][..], &[0x1F, 0x4E, 0, 0], &[0, 0]] {
+        for record in [Record::plain(), Record::plain().without(3).without(6)] {
+            let bytes = record.with(2, data).bytes();
+            assert_eq!(opened(&bytes), 0);
+            assert!(field(&bytes, 2, 1).is_ok());
+            assert_eq!(lead(&bytes, 0), Err(7));
+        }
+    }
+    assert_eq!(
+        Record::plain().changed(6, 4, 3).with(2, &[0, 0]).read(1),
+        Err(7)
+    );
+}
+
+#[test]
+fn all_leads_are_judged_before_the_place() {
+    let broken = Record::plain().changed(3, 2 + 9, 0);
+    assert_eq!(broken.read(1), Err(8));
+    assert_eq!(Record::plain().changed(6, 4, 3).read(0), Err(8));
+    assert_eq!(Record::plain().changed(6, 6, 7).read(3), Err(8));
+    assert_eq!(Record::plain().read(0), Err(10));
+    assert_eq!(Record::plain().read(3), Err(10));
+}
+
+#[test]
+fn absent_sections_3_and_6() {
+    assert_eq!(Record::plain().without(3).without(6).read(1), Err(10));
+    assert_eq!(Record::plain().without(3).read(1), Err(8));
+    assert_eq!(Record::plain().without(6).read(1), Err(10));
+    assert_eq!(Record::plain().without(6).changed(3, 0, 0).read(1), Err(8));
+    assert_eq!(
+        Record::beaten()
+            .without(3)
+            .without(6)
+            .changed(4, 2, 0)
+            .read(1),
+        Err(10)
+    );
+}
+
+#[test]
+fn sections_4_and_5_are_needed_with_bit_0() {
+    for section in [4, 5] {
+        assert_eq!(Record::beaten().without(section).read(1), Err(8));
+        assert_eq!(Record::beaten().without(section).without(6).read(1), Err(8));
+        let unjudged = Record::beaten().changed(3, 1, 0xFE);
+        assert_eq!(unjudged.clone().without(section).read(1), Ok(vec![1, 2, 3]));
+        assert_eq!(
+            unjudged.without(section).with(section, &[]).read(1),
+            Ok(vec![1, 2, 3])
+        );
+    }
+    assert_eq!(Record::beaten().without(6).read(1), Err(10));
+    assert_eq!(Record::beaten().without(6).changed(4, 2, 3).read(1), Err(8));
+}
+
+#[test]
+fn bimodal_steps_and_intervals() {
+    assert_eq!(Record::plain().changed(6, 5, 1).read(1), Err(9));
+    assert_eq!(Record::plain().changed(6, 5, 1).read(0), Err(9));
+    assert_eq!(Record::plain().changed(6, 5, 2).read(1), Err(8));
+    assert_eq!(
+        Record::plain().changed(6, 5, 1).changed(6, 4, 3).read(1),
+        Err(8)
+    );
+    assert_eq!(Record::beaten().changed(6, 0, 0).read(1), Err(9));
+    assert_eq!(Record::beaten().changed(6, 2, 0).read(1), Err(9));
+    assert_eq!(Record::beaten().changed(5, 0, 0).read(1), Err(9));
+}
+
+#[test]
+fn the_beat_has_1_to_65_536_samples() {
+    assert_eq!(Record::beaten().changed(4, 0, 0).read(1), Err(8));
+    assert_eq!(Record::beaten().changed(4, 0, 1).read(1), Err(8));
+    assert_eq!(Record::beaten().changed(4, 2, 0).read(1), Err(8));
+    assert_eq!(Record::beaten().changed(4, 2, 3).read(1), Err(8));
+}
+
+#[test]
+fn zones_go_by_the_samples_of_the_record() {
+    let later = Record::beaten().changed(3, 2, 3).changed(3, 6, 5);
+    assert_eq!(later.read(1), Ok(vec![21, 2, 3]));
+    let beyond = Record::beaten().changed(3, 2, 100).changed(3, 6, 102);
+    assert_eq!(beyond.read(1), Ok(vec![1, 2, 3]));
+}
+
+#[test]
+fn room_is_judged_before_streams() {
+    let number = |record: &Record, out_len, work_len| {
+        let read = read_lead(&record.bytes(), 1, out_len, work_len);
+        read.map_or_else(
+            |refused| (refused.number, refused.work_cleared),
+            |lead| (0, lead.work_cleared),
+        )
+    };
+    let empty = |section| {
+        let mut record = Record::beaten();
+        record.data(section)[6] = 0;
+        let streams = record.data(section).len() - 10;
+        record.data(section).truncate(10 + streams / 2);
+        record
+    };
+    for section in [5, 6] {
+        assert_eq!(number(&empty(section), 2, 2), (11, false));
+        assert_eq!(number(&empty(section), 3, 1), (11, false));
+        assert_eq!(number(&empty(section), 3, 2), (12, true));
+    }
+    assert_eq!(number(&Record::beaten(), 3, 2), (0, true));
+    assert_eq!(number(&Record::plain(), 3, 0), (0, false));
+}
+
+#[test]
+fn another_leads_stream_is_not_met() {
+    let mut record = Record::plain();
+    record.data(6)[6] = 4;
+    record.data(6).drain(10..12);
+    assert_eq!(record.read(1), Err(12));
+    assert_eq!(record.read(2), Ok(vec![1, 2, 3]));
+}
+
+#[test]
+fn bits_left_over() {
+    let mut record = Record::plain();
+    record.data(6)[6] = 7;
+    record.data(6).insert(16, 0);
+    record.data(6).push(0);
+    assert_eq!(record.read(1), Err(14));
+    assert_eq!(record.read(2), Ok(vec![1, 2, 3]));
+    record.data(6)[6] = 5;
+    record.data(6).drain(15..17);
+    assert_eq!(record.read(1), Err(12));
+}
+
+#[test]
+fn the_beat_is_read_first_and_whole() {
+    let no_zone = Record::beaten().changed(4, 4, 0);
+    assert_eq!(no_zone.read(1), Ok(vec![1, 2, 3]));
+    let mut left_over = no_zone.clone();
+    left_over.data(5)[6] = 5;
+    left_over.data(5).insert(14, 0);
+    left_over.data(5).push(0);
+    assert_eq!(left_over.read(1), Err(14));
+    left_over.data(6)[6] = 0;
+    left_over.data(6).drain(10..16);
+    assert_eq!(left_over.read(1), Err(14));
+}
+
+#[test]
+fn residuals_and_sums_have_16_bits_of_their_own() {
+    let mut sum = Record::beaten();
+    sum.data(6)[12..14].copy_from_slice(&32_758i16.to_le_bytes());
+    assert_eq!(sum.read(1), Err(13));
+    sum.data(6)[12..14].copy_from_slice(&32_757i16.to_le_bytes());
+    assert_eq!(sum.read(1), Ok(vec![1, 32_767, 23]));
+    let mut residual = Record::beaten().changed(6, 4, 1);
+    residual.data(5)[10..12].copy_from_slice(&(-9i16).to_le_bytes());
+    residual.data(6)[12..14].copy_from_slice(&32_767i16.to_le_bytes());
+    assert_eq!(residual.read(1), Err(13));
+}

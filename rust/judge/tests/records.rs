@@ -1,0 +1,204 @@
+//! Whole records: opened, read, and written again byte for byte.
+
+use judge::{field, lead, open, read_lead, write_record, Refused, Writing};
+
+/// A record of the data file.
+#[derive(Default)]
+struct Known {
+    name: String,
+    written: bool,
+    identifier: Vec<u8>,
+    flags: u8,
+    step: u16,
+    interval: u16,
+    order: u8,
+    /// The samples of the beat, 0 if none was subtracted.
+    beat: usize,
+    leads: Vec<KnownLead>,
+    bytes: Vec<u8>,
+}
+
+struct KnownLead {
+    first: u32,
+    id: u8,
+    samples: Vec<i16>,
+}
+
+fn hex(text: &str) -> Vec<u8> {
+    let byte = |digits| u8::from_str_radix(digits, 16).expect("two hex digits");
+    text.split_whitespace().map(byte).collect()
+}
+
+fn number<T: std::str::FromStr>(text: &str) -> T {
+    text.parse().ok().expect("a number")
+}
+
+fn known() -> Vec<Known> {
+    let mut all: Vec<Known> = Vec::new();
+    for line in include_str!("data/records.txt").lines() {
+        let (key, rest) = line.split_once(' ').unwrap_or((line, ""));
+        if key == "record" {
+            all.push(Known {
+                name: rest.to_string(),
+                ..Known::default()
+            });
+        } else if let Some(record) = all.last_mut() {
+            record.take(key, rest);
+        }
+    }
+    all
+}
+
+impl Known {
+    fn take(&mut self, key: &str, rest: &str) {
+        match key {
+            "written" => self.written = true,
+            "identifier" => self.identifier = hex(rest),
+            "flags" => self.flags = number(rest),
+            "step" => self.step = number(rest),
+            "interval" => self.interval = number(rest),
+            "order" => self.order = number(rest),
+            "beat" => self.beat = number(rest),
+            "lead" => self.take_lead(rest),
+            "hex" => self.bytes.extend(hex(rest)),
+            _ => {}
+        }
+    }
+
+    fn take_lead(&mut self, rest: &str) {
+        let mut words = rest.split_whitespace();
+        self.leads.push(KnownLead {
+            first: number(words.next().unwrap_or("")),
+            id: number(words.next().unwrap_or("")),
+            samples: words.map(number).collect(),
+        });
+    }
+
+    /// The data of a section, `spare` bytes less at the end.
+    fn data(&self, id: usize, spare: usize) -> Vec<u8> {
+        let pointer = open(&self.bytes).expect("it opens")[id];
+        let start = pointer.index as usize - 1;
+        self.bytes[start + 16..start + pointer.length as usize - spare].to_vec()
+    }
+}
+
+#[test]
+fn all_are_there() {
+    let names: Vec<String> = known().into_iter().map(|record| record.name).collect();
+    let wanted = [
+        "record-least",
+        "record-p5",
+        "record-p6-written",
+        "record-default-two-leads",
+        "record-no-tables",
+        "record-beat",
+    ];
+    assert_eq!(names, wanted);
+}
+
+#[test]
+fn they_open_and_show_their_identifier() {
+    for record in known() {
+        let pointers = open(&record.bytes).expect(&record.name);
+        assert_eq!(pointers.len(), 12);
+        let place = field(&record.bytes, 2, 1).expect(&record.name);
+        assert_eq!(record.bytes[place], record.identifier, "{}", record.name);
+        assert_eq!(field(&record.bytes, 2, 2), Err(10));
+    }
+}
+
+#[test]
+fn their_leads_read() {
+    for record in known() {
+        for (at, known) in record.leads.iter().enumerate() {
+            let count = known.samples.len();
+            let read = read_lead(&record.bytes, at + 1, count, record.beat).expect(&record.name);
+            assert_eq!(read.samples, known.samples, "{}", record.name);
+            assert_eq!((read.id, read.first), (known.id, known.first));
+            assert_eq!(read.flags, record.flags);
+            assert_eq!((read.step, read.interval), (record.step, record.interval));
+            assert_eq!(read.work_cleared, record.beat > 0);
+            let entry = lead(&record.bytes, at + 1).expect(&record.name);
+            assert_eq!(entry.order, record.order);
+            assert_eq!(entry.leads as usize, record.leads.len());
+            assert_eq!((entry.last - entry.first + 1) as usize, count);
+        }
+        let beyond = record.leads.len() + 1;
+        assert_eq!(lead(&record.bytes, beyond), Err(10));
+        assert_eq!(lead(&record.bytes, 0), Err(10));
+    }
+}
+
+#[test]
+fn too_little_room_is_11_and_leaves_work_space_untouched() {
+    let refused = Err(Refused {
+        number: 11,
+        work_cleared: false,
+    });
+    for record in known() {
+        for (at, known) in record.leads.iter().enumerate() {
+            let count = known.samples.len();
+            assert_eq!(
+                read_lead(&record.bytes, at + 1, count - 1, record.beat),
+                refused
+            );
+            if record.beat > 0 {
+                assert_eq!(
+                    read_lead(&record.bytes, at + 1, count, record.beat - 1),
+                    refused
+                );
+            }
+        }
+    }
+}
+
+#[test]
+fn written_ones_come_out_byte_for_byte() {
+    let mut written = 0;
+    for record in known().iter().filter(|record| record.written) {
+        let spare = record.identifier.len() % 2;
+        let section1 = record.data(1, spare);
+        let section2 = match open(&record.bytes).expect("it opens")[2].length {
+            0 => Vec::new(),
+            _ => record.data(2, 0),
+        };
+        let samples: Vec<i16> = record
+            .leads
+            .iter()
+            .flat_map(|lead| lead.samples.clone())
+            .collect();
+        let firsts: Vec<u32> = record.leads.iter().map(|lead| lead.first).collect();
+        let counts: Vec<u32> = record
+            .leads
+            .iter()
+            .map(|lead| lead.samples.len() as u32)
+            .collect();
+        let ids: Vec<u8> = record.leads.iter().map(|lead| lead.id).collect();
+        let writing = Writing {
+            section1: &section1,
+            section2: &section2,
+            version: 13,
+            flags: record.flags,
+            step: record.step,
+            interval: record.interval,
+            order: record.order,
+            firsts: &firsts,
+            counts: &counts,
+            ids: &ids,
+            samples: &samples,
+        };
+        let bytes = write_record(&writing, 1_000, record.bytes.len());
+        assert_eq!(bytes.as_ref(), Ok(&record.bytes), "{}", record.name);
+        let short = write_record(&writing, 1_000, record.bytes.len() - 1);
+        let cleared = !section2.is_empty();
+        assert_eq!(
+            short,
+            Err(Refused {
+                number: 11,
+                work_cleared: cleared
+            })
+        );
+        written += 1;
+    }
+    assert_eq!(written, 3);
+}

@@ -1,0 +1,111 @@
+//! Any bytes and any numbers may come in: every call ends, and calls agree with each other.
+
+use judge::make::{self, Rng};
+use judge::{breaks, field, lead, open, read_lead, walk_start, walk_step};
+
+/// Every call on these bytes.
+fn call_all(rng: &mut Rng, bytes: &[u8]) {
+    let opened = open(bytes).map(|pointers| pointers.len());
+    let smallest = (1..=6).find(|&row| breaks(bytes, row));
+    assert_eq!(opened.err(), smallest);
+    assert_eq!(walk_start(bytes).err(), smallest);
+    for row in [0, 7, 8, 9, 10, 255] {
+        breaks(bytes, row);
+    }
+    for place in [0, 1, 2, 33, usize::MAX] {
+        let entry = lead(bytes, place);
+        let read = read_lead(bytes, place, 70_000, 70_000);
+        match entry {
+            Err(number) => assert_eq!(read.map_err(|refused| refused.number), Err(number)),
+            Ok(entry) => {
+                let refused = read.err().map(|refused| refused.number);
+                assert!(refused.is_none_or(|number| (12..=14).contains(&number)));
+                assert!(entry.first <= entry.last && place <= entry.leads as usize);
+                let count = (entry.last - entry.first) as usize;
+                let short = read_lead(bytes, place, count, 70_000);
+                assert_eq!(short.map_err(|refused| refused.number), Err(11));
+            }
+        }
+    }
+    for at in [
+        0,
+        1,
+        16,
+        bytes.len(),
+        usize::MAX,
+        usize::MAX - 2,
+        rng.number() as usize,
+    ] {
+        let step = walk_step(bytes, at);
+        assert!(step.is_none_or(|step| step.next <= bytes.len() && step.start == at + 3));
+    }
+}
+
+#[test]
+fn every_call_ends() {
+    for seed in 0..2_000 {
+        let rng = &mut Rng::new(seed);
+        let bytes = match seed % 3 {
+            0 => make::noise(rng),
+            1 => make::blind(rng),
+            _ => make::damaged(rng),
+        };
+        call_all(rng, &bytes);
+    }
+    for length in 0..=300 {
+        let rng = &mut Rng::new(length);
+        let mut bytes = rng.bytes(length as usize);
+        call_all(rng, &bytes);
+        make::mend_size(&mut bytes);
+        make::mend(&mut bytes);
+        call_all(rng, &bytes);
+    }
+}
+
+#[test]
+fn every_cut_of_a_record_is_judged() {
+    for seed in 0..3 {
+        let rng = &mut Rng::new(seed);
+        let record = make::record(rng);
+        for length in 0..record.len().min(500) {
+            let mut cut = record[..length].to_vec();
+            call_all(rng, &cut);
+            make::mend_size(&mut cut);
+            make::mend(&mut cut);
+            call_all(rng, &cut);
+        }
+    }
+}
+
+#[test]
+fn the_walk_meets_what_fields_show() {
+    for seed in 0..150 {
+        let record = make::record(&mut Rng::new(seed));
+        let section = walk_start(&record).expect("it opens");
+        let mut met = [0; 256];
+        let mut at = 16;
+        while let Some(step) = walk_step(&record[section.clone()], at) {
+            met[usize::from(step.tag)] += 1;
+            let place = field(&record, step.tag, met[usize::from(step.tag)]);
+            let start = section.start + step.start;
+            assert_eq!(place, Ok(start..start + step.length));
+            at = step.next;
+        }
+        for tag in 0..=255 {
+            assert_eq!(field(&record, tag, met[usize::from(tag)] + 1), Err(10));
+            assert_eq!(field(&record, tag, 0), Err(10));
+            assert_eq!(field(&record, tag, usize::MAX), Err(10));
+        }
+        assert_eq!(met[255], 0);
+    }
+}
+
+#[test]
+fn mending_a_sound_record_changes_nothing() {
+    for seed in 0..300 {
+        let record = make::record(&mut Rng::new(seed));
+        let mut mended = record.clone();
+        make::mend(&mut mended);
+        assert_eq!(mended, record);
+    }
+}

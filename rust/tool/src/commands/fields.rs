@@ -1,0 +1,140 @@
+//! `tigmavresh fields FILE`: the header fields of a record, byte for byte.
+
+use std::path::Path;
+
+use scp::Field;
+
+use crate::input::Reader;
+use crate::names;
+use crate::output::{shown, Output};
+use crate::refused;
+use crate::status::Status;
+use crate::table::{self, numbers, words, Column};
+
+const COLUMNS: [Column; 5] = [
+    numbers("Tag"),
+    numbers("Length"),
+    words("Name"),
+    words("Bytes"),
+    words("Text"),
+];
+
+/// How many bytes stand in a line.
+const BYTES_A_LINE: usize = 16;
+
+/// Shows the fields of a file.
+pub fn run(file: &Path, output: &mut Output) -> Status {
+    let input = match Reader::default().read(file) {
+        Ok(input) => input,
+        Err(error) => {
+            output.complain(file, &error);
+            return Status::NotDone;
+        }
+    };
+    output.block();
+    match scp::fields(&input.bytes) {
+        Ok(fields) => {
+            show(file, &input.bytes, &fields.collect::<Vec<_>>(), output);
+            Status::Accepted
+        }
+        Err(refusal) => {
+            refused::show(file, &input, refusal, output);
+            refused::footnote(output);
+            Status::Refused
+        }
+    }
+}
+
+/// Shows the fields of a record that was accepted.
+fn show(file: &Path, record: &[u8], fields: &[Field], output: &mut Output) {
+    output.line(format_args!(
+        "{}: accepted ({} fields)",
+        shown(file),
+        fields.len()
+    ));
+    let rows: Vec<_> = fields
+        .iter()
+        .flat_map(|field| rows(field.tag, &record[field.range.clone()]))
+        .collect();
+    for line in table::lines(&COLUMNS, &rows) {
+        output.line(line);
+    }
+}
+
+/// A field's rows of the table: one, or more if its bytes are many.
+fn rows(tag: u8, bytes: &[u8]) -> Vec<[String; 5]> {
+    let is_text = is_text(bytes);
+    let text = |part: &[u8]| if is_text { quoted(part) } else { String::new() };
+    let mut parts = bytes.chunks(BYTES_A_LINE);
+    let first = parts.next().unwrap_or_default();
+    let mut rows = vec![[
+        tag.to_string(),
+        bytes.len().to_string(),
+        names::field(tag).to_string(),
+        hex(first),
+        text(first),
+    ]];
+    let empty = String::new;
+    rows.extend(parts.map(|part| [empty(), empty(), empty(), hex(part), text(part)]));
+    rows
+}
+
+/// Bytes as pairs of hex digits.
+fn hex(bytes: &[u8]) -> String {
+    let pairs: Vec<_> = bytes.iter().map(|byte| format!("{byte:02X}")).collect();
+    pairs.join(" ")
+}
+
+/// Whether bytes are text: printable ASCII, with NUL where a string ends.
+fn is_text(bytes: &[u8]) -> bool {
+    let printable = |byte: &u8| matches!(byte, b' '..=b'~');
+    bytes.iter().any(printable) && bytes.iter().all(|byte| *byte == 0 || printable(byte))
+}
+
+/// Text in quotes, every byte of it to be seen.
+fn quoted(text: &[u8]) -> String {
+    let mut shown = String::from('"');
+    for &byte in text {
+        match byte {
+            0 => shown.push_str("\\0"),
+            b'"' | b'\\' => shown.extend(['\\', byte.into()]),
+            _ => shown.push(byte.into()),
+        }
+    }
+    shown.push('"');
+    shown
+}
+
+#[cfg(test)]
+mod tests {
+    use super::{is_text, quoted, rows};
+
+    #[test]
+    fn identifiers_are_shown_by_their_bytes() {
+        let shown = |bytes| rows(2, bytes)[0][3..].join(" ");
+        assert_eq!(shown(b"007\0"), r#"30 30 37 00 "007\0""#);
+        assert_eq!(shown(b"7\0"), r#"37 00 "7\0""#);
+    }
+
+    #[test]
+    fn text_is_printable_throughout() {
+        assert!(is_text(b"a\0b\0"));
+        assert!(!is_text(b"\0"));
+        assert!(!is_text(b""));
+        assert!(!is_text(b"caf\xC3\xA9\0"));
+        assert_eq!(quoted(b"\"\\ \0"), r#""\"\\ \0""#);
+    }
+
+    #[test]
+    fn a_long_field_has_several_lines() {
+        let shown = rows(30, &[b'x'; 33]);
+        assert_eq!(shown.len(), 3);
+        assert_eq!(shown[0][1], "33");
+        assert_eq!(shown[2][1..], ["", "", "78", "\"x\""]);
+    }
+
+    #[test]
+    fn an_empty_field_has_a_line() {
+        assert_eq!(rows(14, b""), [["14", "0", "recording device", "", ""]]);
+    }
+}

@@ -1,0 +1,4 @@
+//! The commands, each in a module of its own.
+
+pub mod fields;
+pub mod open;

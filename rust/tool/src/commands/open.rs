@@ -1,0 +1,99 @@
+//! `tigmavresh open FILE...`: the pointers of each record.
+
+use std::path::{Path, PathBuf};
+
+use scp::Pointer;
+
+use crate::input::{Reader, Size};
+use crate::names;
+use crate::output::{shown, Output};
+use crate::refused;
+use crate::status::Status;
+use crate::table::{self, numbers, words, Column};
+
+const COLUMNS: [Column; 5] = [
+    numbers("ID"),
+    words("Section"),
+    numbers("Length"),
+    numbers("Index"),
+    words(""),
+];
+
+/// Opens each file and shows its pointers; the worst of all files is the status.
+pub fn run(files: &[PathBuf], output: &mut Output) -> Status {
+    let mut reader = Reader::default();
+    let opened = files.iter().map(|file| open(file, &mut reader, output));
+    let statuses: Vec<Status> = opened.collect();
+    if statuses.contains(&Status::Refused) {
+        refused::footnote(output);
+    }
+    if files.len() > 1 {
+        output.block();
+        output.line(summary(&statuses));
+    }
+    statuses.into_iter().max().unwrap_or(Status::Accepted)
+}
+
+/// Opens one file.
+fn open(file: &Path, reader: &mut Reader, output: &mut Output) -> Status {
+    let input = match reader.read(file) {
+        Ok(input) => input,
+        Err(error) => {
+            output.complain(file, &error);
+            return Status::NotDone;
+        }
+    };
+    output.block();
+    match scp::open(&input.bytes) {
+        Ok(pointers) => {
+            show(file, input.size, &pointers, output);
+            Status::Accepted
+        }
+        Err(refusal) => {
+            refused::show(file, &input, refusal, output);
+            Status::Refused
+        }
+    }
+}
+
+/// Shows the pointers of a record that was accepted.
+fn show(file: &Path, size: Size, pointers: &[Pointer], output: &mut Output) {
+    let present = pointers.iter().filter(|p| p.is_present()).count();
+    let count = pointers.len();
+    output.line(format_args!(
+        "{}: accepted ({size}; {count} pointers, {present} sections present)",
+        shown(file)
+    ));
+    let rows: Vec<_> = pointers.iter().map(row).collect();
+    for line in table::lines(&COLUMNS, &rows) {
+        output.line(line);
+    }
+}
+
+/// A pointer's row of the table.
+fn row(pointer: &Pointer) -> [String; 5] {
+    let presence = if pointer.is_present() {
+        "present"
+    } else {
+        "absent"
+    };
+    [
+        pointer.id.to_string(),
+        names::section(pointer.id).to_string(),
+        pointer.length.to_string(),
+        pointer.index.to_string(),
+        presence.to_string(),
+    ]
+}
+
+/// How many files were accepted, refused and not read.
+fn summary(statuses: &[Status]) -> String {
+    let count = |wanted| statuses.iter().filter(|&&status| status == wanted).count();
+    format!(
+        "{} files: {} accepted, {} refused, {} not read",
+        statuses.len(),
+        count(Status::Accepted),
+        count(Status::Refused),
+        count(Status::NotDone)
+    )
+}

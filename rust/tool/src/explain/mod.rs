@@ -1,0 +1,162 @@
+//! What a refused record has that its rule does not allow, for a person to read.
+//!
+//! This is the tool's own look at the bytes: it explains an answer of the proved library and decides nothing. Each
+//! function takes any bytes whatever and looks for all that breaks one rule. Bytes of the record count from 1, as a
+//! pointer's index does.
+
+mod header;
+mod sections;
+
+use scp::Refusal;
+
+use crate::input::Size;
+
+/// What is said if nothing was found, which would be a fault of this module.
+const NOTHING: &str = "nothing that this tool knows how to explain";
+
+/// The fewest bytes that a record has.
+const RECORD_MIN: u64 = 142;
+
+/// What looks for all that breaks one rule.
+type Look = fn(&[u8], Size) -> Vec<String>;
+
+/// For each rule, from 1, what looks for it.
+const ROWS: [Look; 6] = [
+    length,
+    |record, _| check(record),
+    |record, _| sections::zero(record),
+    |record, _| sections::places(record),
+    |record, _| sections::checks(record),
+    |record, _| header::fields(record),
+];
+
+/// What was found in a record that was refused, a line for each thing; at least one.
+pub fn found(record: &[u8], size: Size, refusal: Refusal) -> Vec<String> {
+    let row = usize::from(refusal.number()).wrapping_sub(1);
+    let found = ROWS
+        .get(row)
+        .map_or_else(Vec::new, |look| look(record, size));
+    if found.is_empty() {
+        return vec![NOTHING.to_string()];
+    }
+    found
+}
+
+/// Row 1: the length and the size field.
+fn length(record: &[u8], size: Size) -> Vec<String> {
+    let bound = scp::RECORD_MAX as u64;
+    let mut found = vec![match size {
+        Size::Exactly(bytes) if bytes < RECORD_MIN => {
+            format!("the length is {size}, under {RECORD_MIN}")
+        }
+        Size::Exactly(bytes) if bytes > bound => format!("the length is {size}, over {bound}"),
+        _ => format!("the length is {size}"),
+    }];
+    found.push(match number(record, 3, 4) {
+        Some(stored) => format!("the size field says {stored}"),
+        None => "there is no size field, which is bytes 3 to 6".to_string(),
+    });
+    found
+}
+
+/// Row 2: the record's check.
+fn check(record: &[u8]) -> Vec<String> {
+    let stored = number(record, 1, 2);
+    let checked = record.get(2..);
+    stored
+        .zip(checked)
+        .and_then(|(stored, checked)| differs(stored, checked))
+        .into_iter()
+        .collect()
+}
+
+/// The check stored and the check of these bytes, if they differ.
+fn differs(stored: u64, checked: &[u8]) -> Option<String> {
+    let computed = scp::crc(checked);
+    let differs = stored != u64::from(computed);
+    differs
+        .then(|| format!("the check stored is 0x{stored:04X}, that of the bytes 0x{computed:04X}"))
+}
+
+/// The number in `width` bytes from byte `index` of the record, lowest byte first, if they are all there.
+fn number(record: &[u8], index: u64, width: u64) -> Option<u64> {
+    let bytes = part(record, index, width)?;
+    let joined = bytes
+        .iter()
+        .rev()
+        .fold(0, |high, &low| high << 8 | u64::from(low));
+    Some(joined)
+}
+
+/// `length` bytes of the record from byte `index`, if they are all there.
+fn part(record: &[u8], index: u64, length: u64) -> Option<&[u8]> {
+    let start = usize::try_from(index.checked_sub(1)?).ok()?;
+    let end = start.checked_add(usize::try_from(length).ok()?)?;
+    record.get(start..end)
+}
+
+#[cfg(test)]
+mod tests {
+    use judge::make::{aimed, noise, Rng};
+
+    use super::{found, number, part, NOTHING};
+    use crate::input::Size;
+
+    /// Whatever is refused is explained, by something that is wrong with it.
+    #[test]
+    fn every_refusal_is_explained() {
+        let mut rng = Rng::new(1);
+        let mut explained = [0; 7];
+        for turn in 0..6000 {
+            let record = match (turn % 7) as u8 {
+                0 => noise(&mut rng),
+                row => aimed(&mut rng, row),
+            };
+            if let Err(refusal) = scp::open(&record) {
+                let lines = found(&record, Size::Exactly(record.len() as u64), refusal);
+                assert_ne!(lines, [NOTHING], "turn {turn}, {refusal}");
+                explained[refusal.number() as usize] += 1;
+            }
+        }
+        assert!(
+            explained[1..].iter().all(|&count| count > 0),
+            "{explained:?}"
+        );
+    }
+
+    /// No bytes, and no number, upset it.
+    #[test]
+    fn any_bytes_may_be_looked_at() {
+        let mut rng = Rng::new(2);
+        for turn in 0..6000 {
+            let mut record = aimed(&mut rng, 1 + (turn % 6) as u8);
+            for _ in 0..rng.below(4) {
+                let at = rng.below(record.len());
+                if let Some(byte) = record.get_mut(at) {
+                    *byte = rng.byte();
+                }
+            }
+            record.truncate(rng.below(2 * record.len() + 1));
+            let size = Size::Exactly(record.len() as u64);
+            for row in super::ROWS {
+                row(&record, size);
+            }
+        }
+    }
+
+    #[test]
+    fn numbers_are_lowest_byte_first_and_from_byte_one() {
+        let record = [0x34, 0x12, 0xFF];
+        assert_eq!(number(&record, 1, 2), Some(0x1234));
+        assert_eq!(number(&record, 3, 1), Some(0xFF));
+        assert_eq!(number(&record, 3, 2), None);
+    }
+
+    #[test]
+    fn a_part_outside_the_record_is_none() {
+        assert_eq!(part(b"ab", 0, 1), None);
+        assert_eq!(part(b"ab", 3, 0), Some(&b""[..]));
+        assert_eq!(part(b"ab", 4, 0), None);
+        assert_eq!(part(b"ab", u64::MAX, u64::MAX), None);
+    }
+}

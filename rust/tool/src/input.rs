@@ -1,0 +1,113 @@
+//! Reading a record from a file or from standard input.
+
+use std::fmt;
+use std::fs::File;
+use std::io::{self, ErrorKind, Read};
+use std::path::Path;
+
+/// The name that stands for standard input.
+const STANDARD_INPUT: &str = "-";
+
+/// What was read.
+pub struct Input {
+    /// The bytes, of a record that is too long only as many as show it.
+    pub bytes: Vec<u8>,
+    /// How long the whole is.
+    pub size: Size,
+}
+
+/// How long an input is.
+#[derive(Clone, Copy, Debug, PartialEq, Eq)]
+pub enum Size {
+    /// So many bytes.
+    Exactly(u64),
+    /// More than so many; the rest was not read.
+    Over(u64),
+}
+
+impl fmt::Display for Size {
+    fn fmt(&self, f: &mut fmt::Formatter<'_>) -> fmt::Result {
+        match self {
+            Size::Exactly(1) => write!(f, "1 byte"),
+            Size::Exactly(bytes) => write!(f, "{bytes} bytes"),
+            Size::Over(bytes) => write!(f, "over {bytes} bytes"),
+        }
+    }
+}
+
+/// Whether a path is the name of standard input.
+pub fn is_standard(path: &Path) -> bool {
+    path.as_os_str() == STANDARD_INPUT
+}
+
+/// Reads files, and standard input once.
+#[derive(Default)]
+pub struct Reader {
+    standard_read: bool,
+}
+
+impl Reader {
+    /// Reads a file, or standard input.
+    pub fn read(&mut self, path: &Path) -> io::Result<Input> {
+        if is_standard(path) {
+            return self.read_standard();
+        }
+        let file = File::open(path)?;
+        let metadata = file.metadata()?;
+        read_from(file, metadata.is_file().then_some(metadata.len()))
+    }
+
+    /// Reads standard input, which holds one record: a second reading would find it empty.
+    fn read_standard(&mut self) -> io::Result<Input> {
+        if self.standard_read {
+            return Err(io::Error::new(ErrorKind::Other, "it was read already"));
+        }
+        self.standard_read = true;
+        read_from(io::stdin().lock(), None)
+    }
+}
+
+/// Reads one byte more than the longest record has, at most: that is enough to see it refused. `known` is the length
+/// that the file system knows.
+fn read_from(source: impl Read, known: Option<u64>) -> io::Result<Input> {
+    let bound = scp::RECORD_MAX as u64;
+    let mut bytes = Vec::new();
+    source.take(bound + 1).read_to_end(&mut bytes)?;
+    let read = bytes.len() as u64;
+    let size = match known {
+        _ if read <= bound => Size::Exactly(read),
+        Some(length) => Size::Exactly(length.max(read)),
+        None => Size::Over(bound),
+    };
+    Ok(Input { bytes, size })
+}
+
+#[cfg(test)]
+mod tests {
+    use super::{read_from, Size};
+
+    #[test]
+    fn a_short_input_is_read_whole() {
+        let input = read_from(&b"SCPECG"[..], Some(6)).unwrap();
+        assert_eq!(input.bytes, b"SCPECG");
+        assert_eq!(input.size, Size::Exactly(6));
+    }
+
+    #[test]
+    fn a_long_input_is_read_to_one_byte_past_the_bound() {
+        let zeros = vec![0; scp::RECORD_MAX + 1000];
+        let length = zeros.len() as u64;
+        let file = read_from(&zeros[..], Some(length)).unwrap();
+        assert_eq!(file.bytes.len(), scp::RECORD_MAX + 1);
+        assert_eq!(file.size, Size::Exactly(length));
+        let pipe = read_from(&zeros[..], None).unwrap();
+        assert_eq!(pipe.size, Size::Over(scp::RECORD_MAX as u64));
+    }
+
+    #[test]
+    fn sizes_read_well() {
+        assert_eq!(Size::Exactly(0).to_string(), "0 bytes");
+        assert_eq!(Size::Exactly(1).to_string(), "1 byte");
+        assert_eq!(Size::Over(9).to_string(), "over 9 bytes");
+    }
+}

@@ -1,0 +1,30 @@
+//! `tigmavresh`: opens, checks and shows SCP-ECG records.
+//!
+//! The tool reads files and writes text. What it says of a record is the proved library's answer, but for the lines that
+//! explain a refusal, which say so ([`explain`]).
+
+mod cli;
+mod commands;
+mod explain;
+mod input;
+mod names;
+mod output;
+mod refused;
+mod status;
+mod table;
+
+use std::process::ExitCode;
+
+use clap::Parser;
+
+use cli::{Cli, Command};
+use output::Output;
+
+fn main() -> ExitCode {
+    let mut output = Output::standard();
+    let status = match Cli::parse().command {
+        Command::Open { files } => commands::open::run(&files, &mut output),
+        Command::Fields { file } => commands::fields::run(&file, &mut output),
+    };
+    output.end(status).into()
+}

@@ -1,0 +1,122 @@
+//! Writing what is shown, and complaining.
+
+use std::fmt::Display;
+use std::io::{self, BufWriter, ErrorKind, Stdout, Write};
+use std::path::Path;
+
+use crate::input;
+use crate::status::Status;
+
+/// Standard output, in blocks of lines that an empty line parts.
+///
+/// A reader that has gone away (a closed pipe) is no fault: the lines go nowhere and the work goes on, so that the exit
+/// status still tells of every file. Any other error is kept, and told at the end.
+pub struct Output {
+    to: BufWriter<Stdout>,
+    began: bool,
+    failed: Option<io::Error>,
+}
+
+impl Output {
+    /// Standard output.
+    pub fn standard() -> Output {
+        Output {
+            to: BufWriter::new(io::stdout()),
+            began: false,
+            failed: None,
+        }
+    }
+
+    /// Starts a block of lines.
+    pub fn block(&mut self) {
+        if self.began {
+            self.line("");
+        }
+        self.began = true;
+    }
+
+    /// Writes a line.
+    pub fn line(&mut self, line: impl Display) {
+        self.attempt(|to| writeln!(to, "{line}"));
+    }
+
+    /// Complains of a file on standard error, below what was shown so far.
+    pub fn complain(&mut self, file: &Path, error: &io::Error) {
+        self.attempt(Write::flush);
+        complain(&format!("{}: {}", shown(file), reason(error)));
+    }
+
+    /// Ends the output: the status is that of the work, unless it could not be shown.
+    pub fn end(mut self, status: Status) -> Status {
+        self.attempt(Write::flush);
+        match self.failed {
+            Some(error) if error.kind() != ErrorKind::BrokenPipe => {
+                complain(&format!("standard output: {}", reason(&error)));
+                Status::NotDone
+            }
+            _ => status,
+        }
+    }
+
+    /// Does a piece of writing, if none has failed yet.
+    fn attempt(&mut self, write: impl FnOnce(&mut BufWriter<Stdout>) -> io::Result<()>) {
+        if self.failed.is_none() {
+            self.failed = write(&mut self.to).err();
+        }
+    }
+}
+
+/// Writes a line to standard error. If even that fails there is nobody left to tell.
+fn complain(line: &str) {
+    let _ = writeln!(io::stderr(), "tigmavresh: {line}");
+}
+
+/// The name of a file as it is shown: one line, whatever characters it has.
+pub fn shown(file: &Path) -> String {
+    if input::is_standard(file) {
+        return "standard input".to_string();
+    }
+    let mut name = String::new();
+    for letter in file.to_string_lossy().chars() {
+        if letter.is_control() {
+            name.extend(letter.escape_default());
+        } else {
+            name.push(letter);
+        }
+    }
+    name
+}
+
+/// Why something failed, without the number that the system has for it.
+fn reason(error: &io::Error) -> String {
+    let words = error.to_string();
+    match words.find(" (os error") {
+        Some(end) => words[..end].to_string(),
+        None => words,
+    }
+}
+
+#[cfg(test)]
+mod tests {
+    use std::io;
+    use std::path::Path;
+
+    use super::{reason, shown};
+
+    #[test]
+    fn a_name_is_one_line() {
+        assert_eq!(shown(Path::new("a b.scp")), "a b.scp");
+        assert_eq!(shown(Path::new("a\n\u{1b}[1m.scp")), "a\\n\\u{1b}[1m.scp");
+        assert_eq!(shown(Path::new("-")), "standard input");
+        assert_eq!(shown(Path::new("./-")), "./-");
+    }
+
+    #[test]
+    fn a_reason_has_no_number() {
+        assert_eq!(
+            reason(&io::Error::from_raw_os_error(2)),
+            "No such file or directory"
+        );
+        assert_eq!(reason(&io::Error::new(io::ErrorKind::Other, "why")), "why");
+    }
+}

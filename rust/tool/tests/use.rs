@@ -1,0 +1,256 @@
+//! The tool in a user's hands: exit statuses, standard input, files that are none, pipes that close.
+
+mod common;
+
+use std::ffi::OsStr;
+use std::fs::{self, File};
+use std::io::{BufRead, BufReader, Write};
+use std::path::{Path, PathBuf};
+use std::process::Stdio;
+
+use common::{run, samples, tool, Ran};
+
+/// A folder of this test's own, gone when it ends.
+struct Folder(PathBuf);
+
+impl Folder {
+    fn new(name: &str) -> Folder {
+        let path = Path::new(env!("CARGO_TARGET_TMPDIR")).join(name);
+        let _ = fs::remove_dir_all(&path);
+        fs::create_dir_all(&path).unwrap();
+        Folder(path)
+    }
+
+    /// A file of this name with these bytes.
+    fn file(&self, name: &str, bytes: &[u8]) -> String {
+        let path = self.0.join(name);
+        fs::write(&path, bytes).unwrap();
+        path.into_os_string().into_string().unwrap()
+    }
+}
+
+impl Drop for Folder {
+    fn drop(&mut self) {
+        let _ = fs::remove_dir_all(&self.0);
+    }
+}
+
+/// Runs the tool with these words and this standard input.
+fn run_with_input(words: &[&str], input: Stdio) -> Ran {
+    tool().args(words).stdin(input).output().unwrap().into()
+}
+
+fn sample(name: &str) -> File {
+    File::open(samples().join(name)).unwrap()
+}
+
+#[test]
+fn standard_input_is_a_dash() {
+    let ran = run_with_input(&["open", "-"], sample("007.scp").into());
+    assert_eq!(ran.status, 0);
+    assert_eq!(
+        ran.first_line(),
+        "standard input: accepted (196 bytes; 12 pointers, 2 sections present)"
+    );
+    let ran = run_with_input(&["fields", "-"], sample("refused-6.scp").into());
+    assert_eq!(ran.status, 1);
+    assert_eq!(
+        ran.first_line(),
+        "standard input: refused, number 6 (194 bytes)"
+    );
+}
+
+#[test]
+fn standard_input_stands_among_files_once() {
+    let ran = run_with_input(&["open", "7.scp", "-", "-"], sample("007.scp").into());
+    assert_eq!(ran.status, 2);
+    assert_eq!(ran.err, "tigmavresh: standard input: it was read already\n");
+    assert!(ran
+        .out
+        .ends_with("3 files: 2 accepted, 0 refused, 1 not read\n"));
+}
+
+#[test]
+fn a_missing_file_does_not_stop_the_others() {
+    for words in [
+        ["open", "none.scp", "007.scp", "refused-2.scp"],
+        ["open", "007.scp", "none.scp", "refused-2.scp"],
+        ["open", "007.scp", "refused-2.scp", "none.scp"],
+    ] {
+        let ran = run(&words);
+        assert_eq!(ran.status, 2);
+        assert_eq!(ran.err, "tigmavresh: none.scp: No such file or directory\n");
+        assert!(ran.out.contains("007.scp: accepted"));
+        assert!(ran.out.contains("refused-2.scp: refused, number 2"));
+        assert!(ran
+            .out
+            .ends_with("\n\n3 files: 1 accepted, 1 refused, 1 not read\n"));
+        assert!(!ran.out.starts_with('\n') && !ran.out.contains("\n\n\n"));
+    }
+    let ran = run(&["fields", "none.scp"]);
+    assert_eq!((ran.status, ran.out.as_str()), (2, ""));
+}
+
+#[test]
+fn a_folder_is_no_file() {
+    for command in ["open", "fields"] {
+        let ran = run(&[command, "."]);
+        assert_eq!(ran.status, 2);
+        assert_eq!(ran.err, "tigmavresh: .: Is a directory\n");
+        assert_eq!(ran.out, "");
+    }
+}
+
+#[test]
+fn an_empty_file_is_refused() {
+    let folder = Folder::new("empty");
+    let file = folder.file("empty.scp", b"");
+    for command in ["open", "fields"] {
+        let ran = run(&[command, &file]);
+        assert_eq!(ran.status, 1);
+        assert_eq!(
+            ran.first_line(),
+            format!("{file}: refused, number 1 (0 bytes)")
+        );
+        assert!(ran.out.contains("there is no size field"));
+    }
+}
+
+/// A file that is too long is refused without being read whole, and its size is shown all the same.
+#[test]
+fn a_long_file_is_refused_with_its_size() {
+    let folder = Folder::new("long");
+    let file = folder.file("long.scp", b"");
+    let long = File::options().write(true).open(&file).unwrap();
+    long.set_len(8_000_000_000).unwrap();
+    let ran = run(&["open", &file]);
+    assert_eq!(ran.status, 1);
+    assert_eq!(
+        ran.first_line(),
+        format!("{file}: refused, number 1 (8000000000 bytes)")
+    );
+
+    let ran = run_with_input(&["open", "-"], File::open(&file).unwrap().into());
+    assert_eq!(ran.status, 1);
+    assert_eq!(
+        ran.first_line(),
+        "standard input: refused, number 1 (over 1048576 bytes)"
+    );
+}
+
+/// The reader of the output goes away early: no complaint, and the status still tells of every file.
+#[test]
+fn a_closed_pipe_is_quiet() {
+    for (last, status) in [("007.scp", 0), ("refused-3.scp", 1)] {
+        let mut files = vec!["007.scp"; 500];
+        files.push(last);
+        let mut child = tool()
+            .arg("open")
+            .args(files)
+            .stdout(Stdio::piped())
+            .stderr(Stdio::piped())
+            .spawn()
+            .unwrap();
+        let mut line = String::new();
+        let mut reader = BufReader::with_capacity(1, child.stdout.take().unwrap());
+        reader.read_line(&mut line).unwrap();
+        assert!(line.starts_with("007.scp: accepted"));
+        drop(reader);
+        let ran = Ran::from(child.wait_with_output().unwrap());
+        assert_eq!((ran.status, ran.err.as_str()), (status, ""));
+    }
+}
+
+#[test]
+fn an_answer_that_cannot_be_written_is_told() {
+    let full = File::options().write(true).open("/dev/full").unwrap();
+    let output = tool().args(["open", "007.scp"]).stdout(full).output();
+    let ran = Ran::from(output.unwrap());
+    assert_eq!(ran.status, 2);
+    assert_eq!(
+        ran.err,
+        "tigmavresh: standard output: No space left on device\n"
+    );
+}
+
+#[test]
+fn a_bad_command_line_is_told() {
+    for words in [
+        &[][..],
+        &["open"],
+        &["fields"],
+        &["fields", "007.scp", "7.scp"],
+        &["close", "007.scp"],
+        &["open", "--all", "007.scp"],
+    ] {
+        let ran = run(words);
+        assert_eq!((ran.status, ran.out.as_str()), (2, ""), "{words:?}");
+        assert!(
+            ran.err.contains("Usage: tigmavresh"),
+            "{words:?}: {}",
+            ran.err
+        );
+    }
+}
+
+#[test]
+fn help_says_all_of_it() {
+    let ran = run(&["--help"]);
+    assert_eq!((ran.status, ran.err.as_str()), (0, ""));
+    for words in [
+        "open ",
+        "fields ",
+        "Exit status:",
+        "  0  ",
+        "  1  ",
+        "  2  ",
+        "standard input",
+    ] {
+        assert!(ran.out.contains(words), "{words}\n{}", ran.out);
+    }
+    for command in ["open", "fields"] {
+        let ran = run(&[command, "--help"]);
+        assert_eq!(ran.status, 0);
+        assert!(
+            ran.out.contains("FILE") && ran.out.contains("Exit status:"),
+            "{}",
+            ran.out
+        );
+    }
+}
+
+#[test]
+fn a_strange_name_is_shown_in_one_line() {
+    let folder = Folder::new("names");
+    let bytes = fs::read(samples().join("7.scp")).unwrap();
+    let mut file = File::create(folder.0.join("a\nb \x1b[7m.scp")).unwrap();
+    file.write_all(&bytes).unwrap();
+    let output = tool()
+        .current_dir(&folder.0)
+        .args(["open", "a\nb \x1b[7m.scp"])
+        .output();
+    let ran = Ran::from(output.unwrap());
+    assert!(
+        ran.first_line()
+            .starts_with("a\\nb \\u{1b}[7m.scp: accepted"),
+        "{}",
+        ran.out
+    );
+}
+
+/// A name need not be text.
+#[cfg(unix)]
+#[test]
+fn a_name_that_is_no_text_is_opened() {
+    use std::os::unix::ffi::OsStrExt;
+
+    let folder = Folder::new("bytes");
+    let name = OsStr::from_bytes(b"\xFF.scp");
+    fs::copy(samples().join("7.scp"), folder.0.join(name)).unwrap();
+    let output = tool().current_dir(&folder.0).arg("open").arg(name).output();
+    let ran = Ran::from(output.unwrap());
+    assert_eq!(ran.status, 0);
+    assert!(ran
+        .first_line()
+        .ends_with(".scp: accepted (194 bytes; 12 pointers, 2 sections present)"));
+}
