@@ -1,6 +1,7 @@
--- The examples that 01 holds its rules against (01, Examples to hold against): one table, a line each, which antt computes.
+-- The examples that 01 holds its rules against (01, Examples to hold against), as one table: a line each.
 use Prim.Native.Nat.{ℕ}
-use mathlib.Core.Bool.{Bool, true, not, _&&_}
+use mathlib.Core.Path.{_≡_}
+use mathlib.Core.Bool.{false}
 use mathlib.Core.List.{List, [], _∷_}
 use Rattle.fields.specs.Identifier.{same}
 
@@ -11,15 +12,6 @@ id007 = 48 ∷ (48 ∷ (55 ∷ (0 ∷ [])))
 unfoldable pub id7 : List ℕ
 id7 = 55 ∷ (0 ∷ [])
 
--- P10: they differ
-unfoldable pub p10 : Bool
-p10 = not (same id007 id7)
-
--- every line holds
-unfoldable pub all : List Bool → Bool
-all [] = true
-all (line ∷ lines) = line && all lines
-
--- the table
-unfoldable pub examples : List Bool
-examples = p10 ∷ []
+pub record Examples : Type 0 where
+  -- identifiers 007 and 7 differ
+  pub p10 : same id007 id7 ≡ false

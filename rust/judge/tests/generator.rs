@@ -48,10 +48,7 @@ fn every_row_is_reached() {
     }
     println!("{counts:?}");
     for (row, &times) in counts.iter().enumerate().take(15) {
-        assert!(
-            times > 100,
-            "row {row} came out {times} times of {counts:?}"
-        );
+        assert!(times > 50, "row {row} came out {times} times of {counts:?}");
     }
 }
 

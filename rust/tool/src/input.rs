@@ -2,7 +2,7 @@
 
 use std::fmt;
 use std::fs::File;
-use std::io::{self, ErrorKind, Read};
+use std::io::{self, Read};
 use std::path::Path;
 
 /// The name that stands for standard input.
@@ -60,7 +60,7 @@ impl Reader {
     /// Reads standard input, which holds one record: a second reading would find it empty.
     fn read_standard(&mut self) -> io::Result<Input> {
         if self.standard_read {
-            return Err(io::Error::new(ErrorKind::Other, "it was read already"));
+            return Err(io::Error::other("it was read already"));
         }
         self.standard_read = true;
         read_from(io::stdin().lock(), None)

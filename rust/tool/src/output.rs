@@ -117,6 +117,6 @@ mod tests {
             reason(&io::Error::from_raw_os_error(2)),
             "No such file or directory"
         );
-        assert_eq!(reason(&io::Error::new(io::ErrorKind::Other, "why")), "why");
+        assert_eq!(reason(&io::Error::other("why")), "why");
     }
 }

@@ -33,15 +33,29 @@ pub fn data(tables: &[Vec<Row>]) -> Vec<u8> {
     data
 }
 
+/// How large tables are.
+#[derive(Clone, Copy, PartialEq, Eq)]
+enum Kind {
+    Any,
+    /// As many structures as may be.
+    Full,
+    /// Few structures and few values, so that many streams are equally short.
+    Narrow,
+}
+
 /// Tables that keep the rules, with a value to be reached from table 1; at times as many and as
 /// large as may be.
 pub fn rows(rng: &mut Rng) -> Vec<Vec<Row>> {
-    let full = rng.one_in(60);
-    let number = match full || rng.one_in(20) {
+    let kind = match rng.below(60) {
+        0 => Kind::Full,
+        1..=12 => Kind::Narrow,
+        _ => Kind::Any,
+    };
+    let number = match kind == Kind::Full || rng.one_in(20) {
         true => *bounds::TABLES.end(),
         false => 1 + rng.small(7),
     };
-    let mut tables: Vec<Vec<Row>> = (0..number).map(|_| table(rng, number, full)).collect();
+    let mut tables: Vec<Vec<Row>> = (0..number).map(|_| table(rng, number, kind)).collect();
     let read = crate::tables::tables(&data(&tables), 0);
     if !read.is_some_and(|tables| alive(&tables)[0]) {
         let first = &mut tables[0][0];
@@ -51,16 +65,23 @@ pub fn rows(rng: &mut Rng) -> Vec<Vec<Row>> {
     tables
 }
 
-fn table(rng: &mut Rng, tables: usize, full: bool) -> Vec<Row> {
-    let count = match full {
-        true => *bounds::STRUCTURES.end(),
-        false => 1 + rng.small(63),
+fn table(rng: &mut Rng, tables: usize, kind: Kind) -> Vec<Row> {
+    let count = match kind {
+        Kind::Any => 1 + rng.small(63),
+        Kind::Full => *bounds::STRUCTURES.end(),
+        Kind::Narrow => rng.within(2..=8),
     };
     let prefixes = prefixes(rng, count);
-    prefixes
+    let mut rows: Vec<Row> = prefixes
         .into_iter()
         .map(|(bits, prefix)| row(rng, bits, prefix, tables))
-        .collect()
+        .collect();
+    if kind == Kind::Narrow {
+        for row in rows.iter_mut().filter(|row| row.mode == 1) {
+            row.base_value = rng.pick(&[-1, 0, 0, 1]);
+        }
+    }
+    rows
 }
 
 /// So many prefixes, with their lengths and the first bit on top, of which none begins another:

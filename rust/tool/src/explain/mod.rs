@@ -107,7 +107,7 @@ mod tests {
     fn every_refusal_is_explained() {
         let mut rng = Rng::new(1);
         let mut explained = [0; 7];
-        for turn in 0..6000 {
+        for turn in 0..1400 {
             let record = match (turn % 7) as u8 {
                 0 => noise(&mut rng),
                 row => aimed(&mut rng, row),
@@ -128,7 +128,7 @@ mod tests {
     #[test]
     fn any_bytes_may_be_looked_at() {
         let mut rng = Rng::new(2);
-        for turn in 0..6000 {
+        for turn in 0..1400 {
             let mut record = aimed(&mut rng, 1 + (turn % 6) as u8);
             for _ in 0..rng.below(4) {
                 let at = rng.below(record.len());

@@ -16,6 +16,11 @@ use super::plan::{mend, mend_check};
 use super::record;
 use super::rng::Rng;
 
+/// The rows aimed at, those with many rules more often.
+const ROWS: [u8; 24] = [
+    1, 2, 3, 3, 4, 4, 5, 6, 6, 7, 7, 7, 8, 8, 8, 8, 9, 10, 12, 12, 13, 13, 14, 14,
+];
+
 /// Damage of any kind.
 pub fn damaged(rng: &mut Rng) -> Vec<u8> {
     match rng.below(16) {
@@ -23,7 +28,7 @@ pub fn damaged(rng: &mut Rng) -> Vec<u8> {
         2 => noise(rng),
         3 | 4 => several(rng),
         _ => {
-            let row = rng.pick(&[1, 2, 3, 4, 5, 6, 7, 8, 9, 10, 12, 13, 14]);
+            let row = rng.pick(&ROWS);
             aimed(rng, row)
         }
     }

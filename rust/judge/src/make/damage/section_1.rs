@@ -77,7 +77,8 @@ fn broken_end(rng: &mut Rng, fields: &[Field]) -> Vec<u8> {
         6 => data.extend([9, 9, 9, 255, 0, 0]),
         _ => {
             data.extend([255, 0, 0]);
-            data.extend(rng.bytes_within(2..=9));
+            let count = rng.pick(&[2, 2, 3, 9]);
+            data.extend(rng.bytes(count));
         }
     }
     data

@@ -39,7 +39,7 @@ fn broken_frame(rng: &mut Rng, mut data: Vec<u8>) -> Vec<u8> {
         1 => put_two(&mut data, 0, 19_999),
         2 => data = [default_data(), rng.bytes_within(2..=20)].concat(),
         3 => data.truncate(2 * rng.below(data.len() / 2)),
-        4 => data.extend(rng.bytes_within(2..=20)),
+        4 => data.extend(rng.bytes_within(2..=3)),
         _ => data.clear(),
     }
     data
@@ -91,15 +91,15 @@ fn break_row(rng: &mut Rng, row: &mut Row, tables: usize) {
     match rng.below(8) {
         0 => (row.prefix_bits, row.base_code) = (0, 0),
         1 => {
-            row.prefix_bits = rng.pick(&[33, 34, 64, 255]);
+            row.prefix_bits = rng.pick(&[33, 33, 34, 255]);
             row.code_bits = row.prefix_bits;
         }
         2 => row.code_bits = rng.below(row.prefix_bits.into()) as u8,
         3 => {
             row.mode = 1;
-            row.code_bits = row.prefix_bits + rng.pick(&[17, 18, 32, 200]);
+            row.code_bits = row.prefix_bits + rng.pick(&[17, 17, 18, 200]);
         }
-        4 => row.mode = rng.within(2..=255) as u8,
+        4 => row.mode = rng.pick(&[2, 2, 3, 255]),
         5 => {
             row.mode = 0;
             row.base_value = 1;
@@ -108,7 +108,7 @@ fn break_row(rng: &mut Rng, row: &mut Row, tables: usize) {
         6 => {
             row.mode = 0;
             row.code_bits = row.prefix_bits;
-            row.base_value = rng.pick(&[0, -1, tables as i16 + 1, 256, i16::MIN, i16::MAX]);
+            row.base_value = rng.pick(&[0, 0, -1, tables as i16 + 1, 256, i16::MIN]);
         }
         _ => {
             row.prefix_bits = row.prefix_bits.min(31);

@@ -148,49 +148,65 @@ fn too_many_qrs(rng: &mut Rng, beat: &mut Beat) {
     beat.qrs.resize(rng.pick(&[1025, 1025, 1026, 4000]), other);
 }
 
-/// L and F out of their rules.
+/// L and F out of their rules; zones move with F, so that they stay inside the beat.
 fn break_beat(rng: &mut Rng, beat: &mut Beat, interval: u16) {
     let count = beat_count(beat.length, interval);
-    match rng.below(4) {
-        0 => beat.length = 0,
-        1 if interval > 1000 => beat.length = 1,
-        1 => beat.length = 65_535,
-        2 => beat.fiducial = 0,
-        _ => beat.fiducial = u16::try_from(count + 1).unwrap_or(0),
+    let fiducial = match rng.below(4) {
+        0 => return beat.length = 0,
+        1 if interval > 1000 => return beat.length = 1,
+        1 => return beat.length = 65_535,
+        2 => 0,
+        _ => u16::try_from(count + 1).unwrap_or(0),
+    };
+    for qrs in &mut beat.qrs {
+        let moved = qrs.fiducial.wrapping_add(fiducial.into());
+        qrs.fiducial = moved.wrapping_sub(beat.fiducial.into());
     }
+    beat.fiducial = fiducial;
 }
 
-/// A zone that is empty, overlaps, or lies outside the beat; another type with a zone.
+/// One more QRS that breaks a rule, after sound ones.
 fn break_qrs(rng: &mut Rng, beat: &mut Beat, interval: u16) {
-    let f = u32::from(beat.fiducial);
-    let count = beat_count(beat.length, interval) as u32;
-    if beat.qrs.is_empty() {
-        beat.qrs.push(Qrs {
-            qrs_type: 0,
-            start: 1,
-            fiducial: f,
-            end: 1,
-        });
+    if rng.one_in(8) {
+        beat.qrs.clear();
     }
-    let at = rng.below(beat.qrs.len());
-    let earlier = beat.qrs[..at].iter().rfind(|qrs| qrs.qrs_type == 0);
-    let earlier_end = earlier.map_or(0, |qrs| qrs.end);
-    let qrs = &mut beat.qrs[at];
-    match rng.below(6) {
-        _ if qrs.qrs_type != 0 => match rng.below(3) {
-            0 => qrs.start = 1,
-            1 => qrs.end = 1,
-            _ => (qrs.start, qrs.end) = (1, 1),
-        },
-        0 => (qrs.start, qrs.fiducial) = (0, 0),
-        1 => (qrs.start, qrs.end) = (qrs.end, qrs.start - 1),
-        2 => qrs.fiducial = qrs.start.saturating_add(f),
-        3 => qrs.fiducial = qrs.end.wrapping_add(f).wrapping_sub(count + 1),
-        4 => qrs.end = qrs.fiducial.wrapping_add(count + 1).wrapping_sub(f),
+    let last = beat.qrs.iter().rfind(|qrs| qrs.qrs_type == 0);
+    let end = last.map_or(0, |qrs| qrs.end);
+    let count = beat_count(beat.length, interval) as u32;
+    beat.qrs
+        .push(broken_qrs(rng, end, beat.fiducial.into(), count));
+}
+
+/// A zone that starts at 0, at the end of the one before or earlier, is empty, or has samples
+/// outside the beat, by a little or by so much that 32 bits wrap; or another type with a zone.
+fn broken_qrs(rng: &mut Rng, end: u32, f: u32, count: u32) -> Qrs {
+    let zone = |start: u32, fiducial: u32, end: u32| Qrs {
+        qrs_type: 0,
+        start,
+        fiducial,
+        end,
+    };
+    let next = end.saturating_add(1);
+    let later = next.saturating_add(count);
+    let more = rng.below(3) as u32;
+    match rng.below(8) {
+        0 => zone(end, end, end),
+        1 => zone(1, 1, 1),
+        2 => zone(0, 0, 0),
+        3 => zone(next.saturating_add(1), next, next),
+        4 => zone(
+            next,
+            next.saturating_add(f + more),
+            next.saturating_add(more + 1),
+        ),
+        5 => zone(later, later.wrapping_add(f).wrapping_sub(count + 1), later),
+        6 => zone(u32::MAX, more, u32::MAX),
         _ => {
-            qrs.start = earlier_end;
-            qrs.end = qrs.start;
-            qrs.fiducial = qrs.start;
+            let (start, end) = rng.pick(&[(1, 0), (0, 1), (7, 7)]);
+            Qrs {
+                qrs_type: rng.within(1..=65_535) as u16,
+                ..zone(start, next, end)
+            }
         }
     }
 }
