@@ -3,9 +3,8 @@ use Prim.Native.Nat.{ℕ, _+_, _-_}
 use mathlib.Core.Bool.{Bool, true, false, not, _&&_}
 use mathlib.Core.List.{List, [], _∷_}
 use lib.Dec.{leb, eqb}
-use lib.ListN.{length}
 use Rattle.wire.specs.Numbers.{byteAt, numberAt}
-use Rattle.wire.specs.Rules.{allIn}
+use Rattle.wire.specs.Rules.{allIn, endsBy}
 use Rattle.header.specs.declared.Field.{Field}
 use Rattle.header.specs.declared.Step.{Step}
 use Rattle.header.specs.declared.Step.the-variants.{Found, End}
@@ -15,8 +14,7 @@ use Rattle.header.specs.Fields.{fieldsFrom, fieldsEnd, withTag, sizeOf}
 unfoldable pub endsAt : ℕ → List ℕ → ℕ → Bool
 endsAt spare s at =
     eqb (byteAt s at) 255
-    && (eqb (numberAt 2 s (at + 1)) 0
-    && (leb (at + 3) (length s) && leb (length s) (at + 3 + spare)))
+    && (eqb (numberAt 2 s (at + 1)) 0 && endsBy spare s (at + 3))
 
 -- the one field of a list that has exactly one
 unfoldable pub sole : List Field → Step

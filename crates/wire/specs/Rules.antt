@@ -1,6 +1,9 @@
 -- The words that rules are written in (01, Refusal numbers).
 use Prim.Native.Nat.{ℕ, zero, suc, _+_, _-_}
 use mathlib.Core.Bool.{Bool, true, _&&_, cond}
+use mathlib.Core.List.{List}
+use lib.Dec.{leb}
+use lib.ListN.{length}
 
 -- p holds of n numbers, from k on
 unfoldable pub each : ℕ → ℕ → (ℕ → Bool) → Bool
@@ -10,6 +13,10 @@ each (suc n) k p = p k && each n (k + 1) p
 -- p holds of every number from one up to another, the second left out
 unfoldable pub allIn : ℕ → ℕ → (ℕ → Bool) → Bool
 allIn from to p = each (to - from) from p
+
+-- bytes end at a place, with at most so many spare bytes behind it (1 in a record, 0 in what the writer is given)
+unfoldable pub endsBy : ℕ → List ℕ → ℕ → Bool
+endsBy spare s end = leb end (length s) && leb (length s) (end + spare)
 
 -- a refusal's number where its rule is broken; else what the rules after it say
 abbrev pub unless : Bool → ℕ → ℕ → ℕ

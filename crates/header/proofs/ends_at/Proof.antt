@@ -7,12 +7,13 @@ use lib.Dec.{leb}
 use lib.ListN.{length, List·getD-eq-default}
 use borrow.Author.Needs.{needs}
 use borrow.Author.Tests.{le-leb, lt-leb, eq-eqb, ne-eqb}
+use Rattle.wire.specs.Rules.{endsBy}
 use Rattle.header.specs.Header.{endsAt}
 use Rattle.header.proofs.ends_at.Statement.{statement}
 use Rattle.header.proofs.ends_at.Tie as tie
 
 returns : tie.Need-returns
-unfolding endsAt
+unfolding endsAt endsBy
 returns c = rw (List·getD-eq-default (c .before .before .args .s .now) 0 (c .if1 .taken))
 
 sub-left : tie.Need-sub-left
@@ -22,7 +23,7 @@ byte-requires : tie.Need-byte-requires
 byte-requires c κs = search needs
 
 returns-2 : tie.Need-returns-2
-unfolding endsAt
+unfolding endsAt endsBy
 returns-2 c = rw (sym (c .before .byte .ensures .0), ne-eqb _ _ (c .if2 .taken))
 
 add-number16 : tie.Need-add-number16
@@ -32,7 +33,7 @@ number16-requires : tie.Need-number16-requires
 number16-requires c κs = search needs
 
 returns-3 : tie.Need-returns-3
-unfolding endsAt
+unfolding endsAt endsBy
 returns-3 c =
     rw (
       sym (c .before .before .before .byte .ensures .0),
@@ -44,7 +45,7 @@ returns-3 c =
 -- where the mark stands, the lengths decide
 marked : (c : tie.Else3) → let a = c .before .before .before .before .before .before .args in
     endsAt (a .spare) (a .s .now) (a .at) ≡ (leb (a .at + 3) (length (a .s .now)) && leb (length (a .s .now)) (a .at + 3 + a .spare))
-unfolding endsAt
+unfolding endsAt endsBy
 marked c =
     rw (
       sym (c .before .before .before .byte .ensures .0),

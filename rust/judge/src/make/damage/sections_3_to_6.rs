@@ -10,10 +10,10 @@ use crate::make::rng::Rng;
 pub fn damage(rng: &mut Rng, draft: &mut Draft) {
     let Some(rhythm) = &draft.rhythm else { return };
     let (leads, beaten) = (rhythm.leads.len(), rhythm.beat.is_some());
-    match rng.below(6) {
+    match rng.below(8) {
         0 | 1 => break_section_3(rng, draft, leads),
         2 if beaten => break_stored(rng, draft, 5, leads),
-        3 | 4 if beaten => break_section_4(rng, draft),
+        3..=6 if beaten => break_section_4(rng, draft),
         _ if draft.plan.has(6) => break_section_6(rng, draft, leads),
         _ => break_section_3(rng, draft, leads),
     }
@@ -105,7 +105,7 @@ fn break_stored(rng: &mut Rng, draft: &mut Draft, id: u16, leads: usize) {
 }
 
 fn break_section_4(rng: &mut Rng, draft: &mut Draft) {
-    match rng.below(6) {
+    match rng.below(10) {
         0 => draft.plan.remove(4),
         1 => {
             let length = 2 * rng.below(3);
@@ -117,7 +117,7 @@ fn break_section_4(rng: &mut Rng, draft: &mut Draft) {
                 let interval = rhythm.interval;
                 match &mut rhythm.beat {
                     Some(beat) if case == 3 => too_many_qrs(rng, beat),
-                    Some(beat) if case == 4 => break_beat(rng, beat, interval),
+                    Some(beat) if case <= 5 => break_beat(rng, beat, interval),
                     Some(beat) => break_qrs(rng, beat, interval),
                     None => {}
                 }
@@ -188,8 +188,8 @@ fn broken_qrs(rng: &mut Rng, end: u32, f: u32, count: u32) -> Qrs {
     };
     let next = end.saturating_add(1);
     let later = next.saturating_add(count);
-    let more = rng.below(3) as u32;
-    match rng.below(8) {
+    let more = rng.pick(&[0, 0, 1, 2]);
+    match rng.below(10) {
         0 => zone(end, end, end),
         1 => zone(1, 1, 1),
         2 => zone(0, 0, 0),

@@ -1,0 +1,87 @@
+// Bits of bytes, the most significant first, through a window: the next bits of a stream, at least 57 where there are so many, as
+// the top of a 64-bit number (01, Code tables).
+ghost use mathlib.Core.Path.{_≡_};
+ghost use mathlib.Core.List.{_++_};
+ghost use Prim.Native.Nat.{_+_, _-_, _*_, _/_, _%_, _^_, _<_, _≤_};
+ghost use lib.ListN.{length, take, drop, replicate};
+ghost use Rattle.bits.specs.Bits.{bitsIn, numberOf};
+ghost use Rattle.bits.specs.InnerWindow.{Window, turned};
+
+fn wide(x: u8) -> u64
+    ensures { λ r. ⌜ (r ≡ x) × (r < 256) ⌝ }
+{
+    x as u64
+}
+
+// The eight bytes from i on, the first highest. One load and one swap of bytes is made of this sum.
+fn word(s: &[u8], i: usize) -> u64
+    requires { ⌜ i + 8 ≤ length (now s) ⌝ }
+    ensures { λ r. ⌜ r ≡ numberOf (take 64 (drop (i * 8) (bitsIn (now (s .entry))))) ⌝ }
+{
+    ((((((wide(s[i]) * 256 + wide(s[i + 1])) * 256 + wide(s[i + 2])) * 256 + wide(s[i + 3])) * 256
+        + wide(s[i + 4]))
+        * 256
+        + wide(s[i + 5]))
+        * 256
+        + wide(s[i + 6]))
+        * 256
+        + wide(s[i + 7])
+}
+
+// The same near the end of the bytes, zeros standing for those that are not there.
+fn last_word(s: &[u8], i: usize) -> u64
+    requires { ⌜ i ≤ length (now s) ⌝ }
+    ensures { λ r. ⌜ r ≡ numberOf (take 64 (drop (i * 8) (bitsIn (now (s .entry) ++ replicate 8 0)))) ⌝ }
+{
+    let mut w: u64 = 0;
+    let mut k: usize = 0;
+    while k < 8 {
+        w = w * 256 + wire::byte(s, i + k) as u64;
+        k += 1;
+    }
+    w
+}
+
+// The window on the stream from bit `at` on.
+pub fn window(s: &[u8], at: usize) -> u64
+    requires { ⌜ (length (now s) ≤ 1048576) × (at ≤ length (now s) * 8) ⌝ }
+    ensures { λ r. ⌜ Window (drop at (bitsIn (now (s .entry)))) r ⌝ }
+{
+    let i = at / 8;
+    if s.len() < i + 8 {
+        return last_word(s, i) << (at % 8);
+    }
+    word(s, i) << (at % 8)
+}
+
+// The first p bits of a window, as a number.
+pub fn top(w: u64, p: usize) -> u64
+    requires { ⌜ (1 ≤ p) × (p ≤ 57) ⌝ }
+    ensures { λ r. ⌜ r ≡ w / 2 ^ (64 - p) ⌝ }
+{
+    w >> (64 - p)
+}
+
+// The q bits of a window after its first p, as a number.
+pub fn after(w: u64, p: usize, q: usize) -> u64
+    requires { ⌜ (1 ≤ q) × (p + q ≤ 57) ⌝ }
+    ensures { λ r. ⌜ r ≡ w * 2 ^ p % 2 ^ 64 / 2 ^ (64 - q) ⌝ }
+{
+    (w << p) >> (64 - q)
+}
+
+// A base code of p bits, whose first bit is the lowest, turned so that its first bit is the highest.
+pub fn turn(p: usize, code: usize) -> usize
+    requires { ⌜ p ≤ 32 ⌝ }
+    ensures { λ r. ⌜ (r ≡ turned p code) × (r < 2 ^ p) ⌝ }
+{
+    let mut r: usize = 0;
+    let mut x = code;
+    let mut k: usize = 0;
+    while k < p {
+        r = r * 2 + x % 2;
+        x = x / 2;
+        k += 1;
+    }
+    r
+}

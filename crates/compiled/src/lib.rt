@@ -1,0 +1,176 @@
+// The code tables taken apart once for a lead, into the one form that reading and searching run on: 385 numbers a table (how many
+// structures, then six numbers for each), so that matching a code is a shift and a comparison.
+ghost use mathlib.Core.Path.{_≡_};
+ghost use mathlib.Core.Bool.{true};
+ghost use mathlib.Core.List.{[], _++_};
+ghost use Prim.Native.Nat.{ℕ, _+_, _*_, _<_, _≤_};
+ghost use lib.ListN.{length, getD, take, drop};
+ghost use Rattle.tables.specs.Structures.{structureRight, structuresAt, every};
+ghost use Rattle.tables.specs.Default.{defaultTable};
+ghost use Rattle.tables.specs.Section2.{section2Right, tablesIn, tablesFrom, tableRight};
+ghost use Rattle.compiled.specs.InnerForm.{lowest, beyond, formOf, formAt, numbersOf, Says, Beside, Ready};
+use tables::Structure;
+
+// A structure as the engines hold it.
+pub struct Form {
+    pub prefix: usize,
+    pub remainder: usize,
+    pub to: usize,
+    pub lo: usize,
+    pub hi: usize,
+    pub word: usize,
+}
+
+// The least value that a value's structure serves, 131,072 added.
+fn lowest_of(base: usize, remainder: usize) -> usize
+    requires { ⌜ (base < 65536) × (remainder ≤ 16) ⌝ }
+    ensures { λ r. ⌜ r ≡ lowest base remainder ⌝ }
+{
+    if remainder == 0 {
+        return (base + 32768) % 65536 + 98304;
+    }
+    131072 - tables::power(remainder - 1)
+}
+
+// The first value past those that it serves, 131,072 added.
+fn beyond_of(base: usize, remainder: usize) -> usize
+    requires { ⌜ (base < 65536) × (remainder ≤ 16) ⌝ }
+    ensures { λ r. ⌜ r ≡ beyond base remainder ⌝ }
+{
+    if remainder == 0 {
+        return (base + 32768) % 65536 + 98305;
+    }
+    131072 + tables::power(remainder - 1)
+}
+
+// A structure's form.
+fn form_of(c: Structure) -> Form
+    requires { ⌜ (c .prefix ≤ 32) × (c .prefix ≤ c .whole) × (c .whole ≤ c .prefix + 16) × (c .base < 65536) ⌝ }
+    ensures { λ r. ⌜ r ≡ formOf c ⌝ }
+{
+    let prefix = c.prefix;
+    let remainder = c.whole - prefix;
+    let base = c.base;
+    let word = bits::turn(prefix, c.code);
+    if c.mode == 0 {
+        return Form {
+            prefix,
+            remainder,
+            to: base,
+            lo: 0,
+            hi: 0,
+            word,
+        };
+    }
+    Form {
+        prefix,
+        remainder,
+        to: 0,
+        lo: lowest_of(base, remainder),
+        hi: beyond_of(base, remainder),
+        word,
+    }
+}
+
+// The form at place k of table t.
+pub fn form_at(tab: &[u32], t: usize, k: usize) -> Form
+    requires { ⌜ (length (now tab) ≡ 3080) × (t < 8) × (k < 64) ⌝ }
+    ensures { λ r. ⌜ r ≡ formAt (now (tab .entry)) t k ⌝ }
+{
+    let o = t * 385 + k * 6;
+    Form {
+        prefix: tab[o + 1] as usize,
+        remainder: tab[o + 2] as usize,
+        to: tab[o + 3] as usize,
+        lo: tab[o + 4] as usize,
+        hi: tab[o + 5] as usize,
+        word: tab[o + 6] as usize,
+    }
+}
+
+// A form is put at place k of table t.
+fn put_form(tab: &mut [u32], t: usize, k: usize, f: Form)
+    requires { ⌜ (length (now tab) ≡ 3080) × (t < 8) × (k < 64) ⌝ }
+    requires { ⌜ (f .prefix < 4294967296) × (f .remainder < 4294967296) × (f .to < 4294967296) ⌝ }
+    requires { ⌜ (f .lo < 4294967296) × (f .hi < 4294967296) × (f .word < 4294967296) ⌝ }
+    ensures { λ _. ⌜ now (tab .exit) ≡ take (t * 385 + 1 + k * 6) (now (tab .entry)) ++ (numbersOf f ++ drop (t * 385 + 7 + k * 6) (now (tab .entry))) ⌝ }
+{
+    let o = t * 385 + k * 6;
+    tab[o + 1] = f.prefix as u32;
+    tab[o + 2] = f.remainder as u32;
+    tab[o + 3] = f.to as u32;
+    tab[o + 4] = f.lo as u32;
+    tab[o + 5] = f.hi as u32;
+    tab[o + 6] = f.word as u32;
+}
+
+// The n structures from a place of Section 2's data on are put as table t.
+fn put_table(s: &[u8], o: usize, n: usize, tables: usize, tab: &mut [u32], t: usize)
+    requires { ⌜ (length (now tab) ≡ 3080) × (t < 8) × (n ≤ 64) × (o < 8388608) × (tables ≤ 8) ⌝ }
+    requires { ⌜ every (structureRight tables) (structuresAt (now s) o n) ≡ true ⌝ }
+    ensures { λ _. ⌜ Says (structuresAt (now (s .entry)) o n) (now (tab .exit)) t × Beside (now (tab .entry)) (now (tab .exit)) t ⌝ }
+{
+    tab[t * 385] = n as u32;
+    let mut from = o;
+    let mut k = 0;
+    while k < n {
+        put_form(tab, t, k, form_of(tables::structure_at(s, from)));
+        from += 9;
+        k += 1;
+    }
+}
+
+// The default table is put as the first.
+fn put_default(tab: &mut [u32])
+    requires { ⌜ length (now tab) ≡ 3080 ⌝ }
+    ensures { λ _. ⌜ Says defaultTable (now (tab .exit)) 0 ⌝ }
+{
+    tab[0] = 19;
+    let mut k = 0;
+    while k < 19 {
+        put_form(tab, 0, k, form_of(tables::default_structure(k)));
+        k += 1;
+    }
+}
+
+// The tables from n on have no structure.
+fn put_none(tab: &mut [u32], n: usize)
+    requires { ⌜ (length (now tab) ≡ 3080) × (n ≤ 8) ⌝ }
+    ensures { λ _. ⌜ ((t : ℕ) → n ≤ t → t < 8 → Says [] (now (tab .exit)) t) × ((i : ℕ) → i < n * 385 → getD (now (tab .exit)) i 0 ≡ getD (now (tab .entry)) i 0) ⌝ }
+{
+    let mut t = n;
+    while t < 8 {
+        tab[t * 385] = 0;
+        t += 1;
+    }
+}
+
+// The n tables from a place of Section 2's data on are put as the first n.
+fn put_tables(s: &[u8], o: usize, n: usize, tab: &mut [u32])
+    requires { ⌜ (length (now tab) ≡ 3080) × (n ≤ 8) × (o < 2097152) ⌝ }
+    requires { ⌜ every (tableRight n) (tablesFrom (now s) o n) ≡ true ⌝ }
+    ensures { λ _. ⌜ ((t : ℕ) → t < n → Says (getD (tablesFrom (now (s .entry)) o n) t []) (now (tab .exit)) t) ⌝ }
+{
+    let mut from = o;
+    let mut t = 0;
+    while t < n {
+        put_table(s, from + 2, wire::number16(s, from), n, tab, t);
+        from = tables::after_table(s, from);
+        t += 1;
+    }
+}
+
+// The tables of Section 2's data, which start at place `at` and were judged to be right, are put as forms.
+pub fn compile(s: &[u8], at: usize, spare: usize, tab: &mut [u32])
+    requires { ⌜ (length (now tab) ≡ 3080) × (at ≤ 1048576) × (section2Right spare (now s) at ≡ true) ⌝ }
+    ensures { λ _. ⌜ Ready (tablesIn (now (s .entry)) at) (now (tab .exit)) ⌝ }
+{
+    if tables::is_default(s, at) {
+        put_default(tab);
+        put_none(tab, 1);
+        return;
+    }
+    let n = wire::number16(s, at);
+    put_tables(s, at + 2, n, tab);
+    put_none(tab, n);
+}

@@ -1,0 +1,46 @@
+-- The default table keeps the rule of a table, and each prefix is its run of ones and what ends it: one test over the whole table gives
+-- both at every entry. Assumes nothing.
+use Prim.Native.Nat.{ℕ, _<_}
+use mathlib.Core.Path.{_≡_, refl, sym, ap, _∙_}
+use mathlib.Core.Bool.{true}
+use mathlib.Core.List.{List, [], _∷_, _++_, map}
+use lib.ListN.{getD, List·getD-map}
+use Rattle.bits.specs.Bits.{lowBits, begins}
+use Rattle.tables.specs.Structures.{noStructure, prefixOf, modeRight, structureRight, apart, every, prefixFree}
+use Rattle.tables.specs.Default.{defaultTable, twoValues, valued, ones, codeOf}
+use Rattle.tables.specs.Section2.{tableRight}
+use Rattle.tables.proofs.Laws.{table-right, free-at}
+
+-- the runs of k ones: then `00`, and then `01`
+abbrev pub twoRuns : ℕ → List (List ℕ)
+twoRuns k = (ones k ++ (0 ∷ (0 ∷ []))) ∷ ((ones k ++ (0 ∷ (1 ∷ []))) ∷ [])
+
+-- the runs at all places
+unfoldable pub runs : List (List ℕ)
+runs =
+    (0 ∷ [])
+    ∷ (twoRuns 1
+    ++ (twoRuns 2
+    ++ (twoRuns 3
+    ++ (twoRuns 4
+    ++ (twoRuns 5
+    ++ (twoRuns 6 ++ (twoRuns 7 ++ (twoRuns 8 ++ ((ones 9 ++ (0 ∷ [])) ∷ (ones 10 ∷ []))))))))))
+
+-- the test
+passes : (tableRight 1 defaultTable ≡ true) × (map prefixOf defaultTable ≡ runs)
+unfolding tableRight every structureRight modeRight prefixFree apart begins lowBits defaultTable twoValues valued ones codeOf runs
+passes = (refl, refl)
+
+-- 19 structures, each by its rule, and no prefix that begins another
+pub default-right : tableRight 1 defaultTable ≡ true
+default-right = passes .0
+
+-- no prefix begins another: any two places
+pub default-free : (j k : ℕ) → j < k → k < 19 → apart (getD defaultTable j noStructure) (getD defaultTable k noStructure) ≡ true
+unfolding defaultTable twoValues
+default-free = free-at defaultTable (table-right 1 defaultTable default-right .free)
+
+-- the run of ones at each place
+pub default-run : (k : ℕ) → prefixOf (getD defaultTable k noStructure) ≡ getD runs k []
+unfolding lowBits
+default-run k = sym (List·getD-map prefixOf defaultTable k noStructure) ∙ ap (λ (l : List (List ℕ)). getD l k []) (passes .1)

@@ -1,0 +1,74 @@
+-- At every turn the structures that are left decide, since those passed keep the rule; after the last nothing is left to decide.
+use mathlib.Core.Path.{_≡_, refl, sym, ap, _∙_}
+use Prim.Native.Nat.{_+_, _*_}
+use native.Mathlib.Omega.{arith}
+use borrow.Author.Needs.{needs}
+use Rattle.tables.specs.Structures.{structuresAt, structureRight, every}
+use Rattle.wire.proofs.Tests.{kept, broken}
+use Rattle.tables.proofs.Laws.{every-miss, every-step, every-end, structures-cons, structures-none}
+use Rattle.tables.proofs.structures_right.Statement.{statement}
+use Rattle.tables.proofs.structures_right.Tie as tie
+
+abbrev Inv-loop : tie.InvT-loop
+Inv-loop s o n tables from₀ left₀ from left =
+    (from + 9 * left ≡ o + 9 * n)
+    × (every (structureRight tables) (structuresAt s from left) ≡ every (structureRight tables) (structuresAt s o n))
+
+abbrev μ-loop : tie.MeasureT-loop
+μ-loop s o n tables from₀ left₀ from left = left
+
+loop-holds : tie.Need-loop-holds Inv-loop μ-loop
+loop-holds c = (refl, refl)
+
+structure-at-requires : tie.Need-structure-at-requires Inv-loop μ-loop
+structure-at-requires c κs = omega arith
+
+structure-right-requires : tie.Need-structure-right-requires Inv-loop μ-loop
+structure-right-requires c κs = tt
+
+returns : tie.Need-returns Inv-loop μ-loop
+returns c =
+    let l = c .before .before .before .before .loop in
+    let a = c .before .before .before .before .before .before .args in
+    let first = c .before .structure-right .ensures ∙ ap (structureRight (a .tables)) (c .before .before .structure-at .ensures) in
+    let cons = structures-cons (a .s .now) (l .from) (l .left) (omega arith) in
+    sym (every-miss (structureRight (a .tables)) _ _ cons (broken first (c .if1 .taken))) ∙ l .inv .1
+
+add-from : tie.Need-add-from Inv-loop μ-loop
+add-from c = omega arith
+
+sub-left : tie.Need-sub-left Inv-loop μ-loop
+sub-left c = search needs
+
+loop-less : tie.Need-loop-less Inv-loop μ-loop
+loop-less c = omega arith
+
+loop-again : tie.Need-loop-again Inv-loop μ-loop
+loop-again c =
+    let l = c .before .before .before .before .loop in
+    let a = c .before .before .before .before .before .before .args in
+    let first = c .before .structure-right .ensures ∙ ap (structureRight (a .tables)) (c .before .before .structure-at .ensures) in
+    let cons = structures-cons (a .s .now) (l .from) (l .left) (omega arith) in
+    (omega arith, sym (every-step (structureRight (a .tables)) _ _ cons (kept first (c .if1 .left))) ∙ l .inv .1)
+
+returns-2 : tie.Need-returns-2 Inv-loop μ-loop
+returns-2 c =
+    let l = c .before .loop in
+    let a = c .before .before .before .args in
+    sym (every-end (structureRight (a .tables)) (structures-none (a .s .now) (l .from) (l .left) (omega arith))) ∙ l .inv .1
+
+pub structures-right-spec : {M : Type 1} → statement M
+structures-right-spec =
+    tie.close
+    (tie.spec
+    Inv-loop
+    μ-loop
+    loop-holds
+    structure-at-requires
+    structure-right-requires
+    returns
+    add-from
+    sub-left
+    loop-less
+    loop-again
+    returns-2)

@@ -1,0 +1,41 @@
+-- The default table (01, Code tables): 0 is `0`; k from 1 to 8 is k ones, then `00`; -k is k ones, then `01`; nine ones, then `0`, take
+-- a remainder of 8 bits; ten ones one of 16.
+use Prim.Native.Nat.{ℕ, _+_, _-_, _*_}
+use mathlib.Core.List.{List, [], _∷_, _++_}
+use lib.ListN.{length, replicate}
+use Rattle.tables.specs.declared.Structure.{Structure}
+
+-- the base code of a prefix: its first bit is the lowest
+unfoldable pub codeOf : List ℕ → ℕ
+codeOf [] = 0
+codeOf (b ∷ bs) = b + codeOf bs * 2
+
+-- the structure of a value with this prefix, so many bits of remainder, and this base value
+unfoldable pub valued : List ℕ → ℕ → ℕ → Structure
+valued bits remainder base = record {
+  prefix = length bits;
+  whole = length bits + remainder;
+  mode = 1;
+  base = base;
+  code = codeOf bits;
+}
+
+-- a run of k ones
+unfoldable pub ones : ℕ → List ℕ
+ones k = replicate k 1
+
+-- k and -k, which is held as 65,536 - k
+unfoldable pub twoValues : ℕ → List Structure
+twoValues k = valued (ones k ++ (0 ∷ (0 ∷ []))) 0 k ∷ (valued (ones k ++ (0 ∷ (1 ∷ []))) 0 (65536 - k) ∷ [])
+
+-- the places run 0, 1, -1 up to 8, -8, then the two with a remainder, whose base value is not used
+unfoldable pub defaultTable : List Structure
+defaultTable =
+    valued (0 ∷ []) 0 0
+    ∷ (twoValues 1
+    ++ (twoValues 2
+    ++ (twoValues 3
+    ++ (twoValues 4
+    ++ (twoValues 5
+    ++ (twoValues 6
+    ++ (twoValues 7 ++ (twoValues 8 ++ (valued (ones 9 ++ (0 ∷ [])) 8 0 ∷ (valued (ones 10) 16 0 ∷ []))))))))))

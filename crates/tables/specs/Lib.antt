@@ -1,0 +1,3 @@
+pub mod Structures
+pub mod Default
+pub mod Section2
