@@ -1,17 +1,60 @@
 -- The examples that 01 holds its rules against (01, Examples to hold against), as one table: a line each.
-use Prim.Native.Nat.{ℕ}
+use Prim.Native.Nat.{ℕ, zero, suc}
 use mathlib.Core.Path.{_≡_}
-use mathlib.Core.Bool.{false}
+use mathlib.Core.Bool.{true, false}
 use mathlib.Core.List.{List, [], _∷_}
+use lib.IntN.{ℤ, pos, negsuc}
+use lib.ListN.{length}
+use Rattle.bits.specs.Bits.{lowBits, bitsIn}
+use Rattle.tables.specs.declared.Structure.{Structure}
+use Rattle.tables.specs.Section2.{tablesIn, section2Right}
+use Rattle.reading.specs.Reading.{Next, gave, stuck, readNext}
 use Rattle.fields.specs.Identifier.{same}
+
+-- Section 2's data of the two tables of 000, C.2.7.3
+unfoldable pub twoTables : List ℕ
+twoTables =
+    2 ∷ 0 ∷ 7 ∷ 0 ∷ 1 ∷ 1 ∷ 1 ∷ 0 ∷ 0 ∷ 0 ∷ 0 ∷ 0 ∷ 0 ∷ 3 ∷ 3 ∷ 1 ∷ 1 ∷ 0 ∷ 1 ∷ 0 ∷ 0 ∷ 0 ∷ 3 ∷ 3 ∷ 1 ∷ 255 ∷ 255 ∷ 5 ∷ 0 ∷ 0 ∷ 0 ∷ 4 ∷ 4 ∷ 1 ∷ 2 ∷ 0 ∷
+    3 ∷ 0 ∷ 0 ∷ 0 ∷ 4 ∷ 4 ∷ 1 ∷ 254 ∷ 255 ∷ 11 ∷ 0 ∷ 0 ∷ 0 ∷ 4 ∷ 4 ∷ 0 ∷ 2 ∷ 0 ∷ 7 ∷ 0 ∷ 0 ∷ 0 ∷ 4 ∷ 12 ∷ 1 ∷ 0 ∷ 0 ∷ 15 ∷ 0 ∷ 0 ∷ 0 ∷ 5 ∷ 0 ∷ 1 ∷ 9 ∷
+    1 ∷ 0 ∷ 0 ∷ 0 ∷ 0 ∷ 0 ∷ 0 ∷ 3 ∷ 3 ∷ 1 ∷ 0 ∷ 0 ∷ 1 ∷ 0 ∷ 0 ∷ 0 ∷ 3 ∷ 3 ∷ 1 ∷ 1 ∷ 0 ∷ 5 ∷ 0 ∷ 0 ∷ 0 ∷ 3 ∷ 3 ∷ 1 ∷ 255 ∷ 255 ∷ 3 ∷ 0 ∷ 0 ∷ 0 ∷ 3 ∷ 3 ∷
+    0 ∷ 1 ∷ 0 ∷ 7 ∷ 0 ∷ 0 ∷ 0 ∷ []
+
+-- and those that name the default table
+unfoldable pub namedDefault : List ℕ
+namedDefault = 31 ∷ 78 ∷ []
+
+-- so many values of a stream, one after another, and how many bits are left
+pub data Many : Type 0 where
+  values : List ℤ → ℕ → Many
+
+abbrev pub more : ℤ → Many → Many
+more v (values vs left) = values (v ∷ vs) left
+
+abbrev pub onward : (ℕ → List ℕ → Many) → Next → Many
+onward goOn (gave v table bs) = more v (goOn table bs)
+onward goOn stuck = values [] 0
+
+unfoldable pub readMany : ℕ → List (List Structure) → ℕ → List ℕ → Many
+readMany zero tables table bs = values [] (length bs)
+readMany (suc n) tables table bs = onward (readMany n tables) (readNext tables table bs)
 
 -- the identifiers 007 and 7, as the fields `02 04 00 30 30 37 00` and `02 02 00 37 00` show them
 unfoldable pub id007 : List ℕ
-id007 = 48 ∷ (48 ∷ (55 ∷ (0 ∷ [])))
+id007 = 48 ∷ 48 ∷ 55 ∷ 0 ∷ []
 
 unfoldable pub id7 : List ℕ
-id7 = 55 ∷ (0 ∷ [])
+id7 = 55 ∷ 0 ∷ []
 
 pub record Examples : Type 0 where
-  -- identifiers 007 and 7 differ
+  -- P3: by the default table these bytes read to 14 18 0 -4 -9 -1 5; of their 72 bits 71 are taken
+  pub p3 : readMany 7 (tablesIn namedDefault 0) 1 (bitsIn (255 ∷ 131 ∷ 191 ∷ 225 ∷ 39 ∷ 191 ∷ 247 ∷ 189 ∷ 248 ∷ []))
+      ≡ values (pos 14 ∷ pos 18 ∷ pos 0 ∷ negsuc 3 ∷ negsuc 8 ∷ negsuc 0 ∷ pos 5 ∷ []) 1
+  -- P4: the stored code 11 with 4 bits is 1101
+  pub p4 : lowBits 4 11 ≡ 1 ∷ 1 ∷ 0 ∷ 1 ∷ []
+  -- P5: the two tables are right, and these bytes read to the 20 values through both switches; of their 96 bits 92 are taken
+  pub p5-tables : section2Right 0 twoTables 0 ≡ true
+  pub p5 : readMany 20 (tablesIn twoTables 0) 1 (bitsIn (153 ∷ 94 ∷ 6 ∷ 240 ∷ 72 ∷ 222 ∷ 128 ∷ 253 ∷ 1 ∷ 189 ∷ 54 ∷ 192 ∷ []))
+      ≡ values (pos 1 ∷ pos 2 ∷ negsuc 0 ∷ pos 0 ∷ pos 3 ∷ pos 0 ∷ pos 4 ∷ pos 1 ∷ pos 0 ∷ negsuc 1 ∷ pos 0 ∷ pos 15 ∷ negsuc 0 ∷ pos 0 ∷ pos 13 ∷ pos 0
+      ∷ pos 1 ∷ negsuc 1 ∷ negsuc 0 ∷ pos 1 ∷ []) 4
+  -- P10: identifiers 007 and 7 differ
   pub p10 : same id007 id7 ≡ false

@@ -73,7 +73,7 @@ pub fn tables_to_write(section2: &[u8]) -> Result<Option<Tables>, u8> {
     }
 }
 
-/// A byte for each sample of the longest lead times each table; none without Section 2.
+/// The work space asked for, in bytes: one for each table at each sample of the longest lead.
 pub fn work_needed(tables: &Option<Tables>, longest: usize) -> usize {
     longest * tables.as_ref().map_or(0, Vec::len)
 }
@@ -99,9 +99,8 @@ fn two_bytes_each(values: &[i32]) -> Option<Put> {
 /// The least bits that codes take from each table on; `None` where no codes do.
 type Least = Vec<Option<u32>>;
 
-/// From table 1 on, always the smallest code among those that keep to the least bits. As the
-/// prefixes of a table differ within the shorter one, this is the stream that is smaller at the
-/// first differing bit.
+/// Goes on from table 1 with the smallest of the codes that lead to the least bits. Prefixes of a
+/// table differ within the shorter one, so no other stream of these bits is smaller.
 fn shortest(tables: &Tables, values: &[i32]) -> Option<Put> {
     let least = least_bits(tables, values);
     let mut put = Put::default();

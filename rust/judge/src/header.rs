@@ -42,14 +42,14 @@ pub fn field(record: &[u8], tag: u8, occurrence: usize) -> Result<Range<usize>, 
     Ok(section.start + step.start..section.start + step.next)
 }
 
-/// Section 1 whole, with its header, as a part of the record; refused as opening is.
+/// The place of Section 1, header and all, in the record; the refusals are those of opening.
 pub fn walk_start(record: &[u8]) -> Result<Range<usize>, u8> {
     smallest(record, 1..=6)?;
     place_of(record, 1).ok_or(4)
 }
 
-/// The field at a place of the lent section; `None`, the end, at tag 255 or where no whole field
-/// stands.
+/// The field at a place of the lent section; `None` for the end: tag 255, or bytes too few for a
+/// field.
 pub fn walk_step(section: &[u8], at: usize) -> Option<Step> {
     let mut bytes = Bytes::new(section.get(at..)?);
     let tag = bytes.byte()?;
@@ -65,12 +65,12 @@ pub fn walk_step(section: &[u8], at: usize) -> Option<Step> {
     })
 }
 
-/// Two identifiers are the same exactly if their bytes are equal.
+/// Identifiers are compared byte by byte, with nothing trimmed, folded or turned into a number.
 pub fn same_identifier(a: &[u8], b: &[u8]) -> bool {
     a == b
 }
 
-/// Row 6: Section 1's data, with at most one byte after the end mark.
+/// Row 6: Section 1's data; a single byte may follow the end mark.
 pub fn section_1_breaks(record: &[u8]) -> bool {
     !data_of(record, 1).is_some_and(|data| fields_hold(data, 1))
 }

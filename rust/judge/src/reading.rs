@@ -50,7 +50,7 @@ pub fn read_lead(
     })
 }
 
-/// The first fault met decides.
+/// The beat, then the residual, then the sums; what fails first is the refusal.
 fn samples(record: &[u8], found: &Found) -> Result<Vec<i16>, u8> {
     let tables = data_of(record, 2).and_then(|data| tables(data, 1));
     let residual = |tables| {

@@ -31,7 +31,7 @@ impl Pointer {
         Some(Pointer { id, length, index })
     }
 
-    /// Length 0 means absent, whatever the index.
+    /// The length alone tells whether the section is there.
     pub fn is_present(&self) -> bool {
         self.length != 0
     }
@@ -129,7 +129,7 @@ fn section_0(record: &[u8]) -> Option<Vec<Pointer>> {
     Some(pointers)
 }
 
-/// The first twelve are 0 to 11 in order; any more rise strictly from 12.
+/// IDs 0 to 11 come first; after them each is larger than the one before.
 fn ids_hold(pointers: &[Pointer]) -> bool {
     let ids: Vec<u16> = pointers.iter().map(|pointer| pointer.id).collect();
     let in_order = ids.iter().take(12).copied().eq(0..=11);

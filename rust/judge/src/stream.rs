@@ -62,7 +62,7 @@ pub struct Values<'a> {
 }
 
 impl<'a> Values<'a> {
-    /// Each lead starts in table 1.
+    /// From the start of a stream, in table 1.
     pub fn new(stream: &'a [u8], tables: Option<&'a Tables>) -> Self {
         Values {
             bits: Bits::new(stream),
@@ -71,7 +71,7 @@ impl<'a> Values<'a> {
         }
     }
 
-    /// The next value; `None` where its code matches nothing or runs out.
+    /// The next value; `None` if the bits do not make a whole code.
     pub fn next(&mut self) -> Option<i32> {
         match self.tables {
             Some(tables) => self.next_by(tables),
@@ -83,7 +83,7 @@ impl<'a> Values<'a> {
         self.bits.left()
     }
 
-    /// A value ends the step; a switch carries on in its table.
+    /// Takes codes until one is a value; switches change the table on the way.
     fn next_by(&mut self, tables: &Tables) -> Option<i32> {
         loop {
             let table = tables.get(self.table.checked_sub(1)?)?;

@@ -88,7 +88,7 @@ fn meaning(mode: u8, remainder: u32, base_value: i16, tables: usize) -> Option<M
     }
 }
 
-/// Whether no prefix begins another or equals it.
+/// Whether each two prefixes differ in a bit that both have.
 fn is_prefix_free(table: &[Structure]) -> bool {
     table.iter().enumerate().all(|(place, one)| {
         let mut others = table[place + 1..].iter();

@@ -8,13 +8,13 @@ use crate::record::{BEFORE_SECTION_0, HEADER, LETTERS, POINTER};
 use crate::rows::Refused;
 use crate::tables::Tables;
 
-/// What is to be written. Lead k has first sample number `firsts[k]`, `counts[k]` samples and ID
-/// `ids[k]`; the samples of all leads stand one after another.
+/// What is to be written. Each lead has a first sample number, a count of samples and an ID at its
+/// place in the three lists; `samples` are those of the first lead, then of the second, and so on.
 #[derive(Clone, Copy, Debug)]
 pub struct Writing<'a> {
-    /// Section 1's data up to the end mark, and with it.
+    /// The data of Section 1, its end mark last.
     pub section1: &'a [u8],
-    /// Section 2's data with no spare byte; empty for no Section 2.
+    /// The data of Section 2, none spare; empty if there is to be no such section.
     pub section2: &'a [u8],
     pub version: u8,
     pub flags: u8,
@@ -106,7 +106,7 @@ impl Writing<'_> {
             .collect()
     }
 
-    /// Sections in rising ID without gaps, twelve pointers, absent ones with index 0.
+    /// One section after another by ID, and a pointer for each ID up to 11.
     fn laid_out(&self, streams: &[Vec<u8>]) -> Vec<u8> {
         let mut pointers = [[0; POINTER]; 12];
         let mut sections = Vec::new();

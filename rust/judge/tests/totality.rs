@@ -1,4 +1,4 @@
-//! Any bytes and any numbers may come in: every call ends, and calls agree with each other.
+//! No bytes and no numbers stop a call from ending, and calls agree with each other.
 
 use judge::make::{self, Rng};
 use judge::{breaks, field, lead, open, read_lead, walk_start, walk_step};

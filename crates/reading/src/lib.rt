@@ -1,0 +1,186 @@
+// Reading values from a stream of bits by code tables (01, Code tables; refusal 12). The bit cursor goes by value with the current
+// table's number, and its methods hand back the moved cursor. Reading a value and following a switch call each other; the bits left
+// fall at each code, and the depth is bounded, with a loop around it, so that no stream can exhaust the stack.
+ghost use mathlib.Core.Path.{_≡_};
+ghost use mathlib.Core.Bool.{true};
+ghost use mathlib.Core.List.{List, []};
+ghost use Prim.Native.Nat.{ℕ, suc, _+_, _*_, _^_, _<_, _≤_};
+ghost use lib.ListN.{length, getD, drop};
+ghost use Rattle.bits.specs.Bits.{bitsIn, signed, begins};
+ghost use Rattle.tables.specs.declared.Structure.{Structure};
+ghost use Rattle.tables.specs.Structures.{prefixOf, remainderOf, structureRight};
+ghost use Rattle.compiled.specs.InnerForm.{formOf, Ready, Held};
+ghost use Rattle.reading.specs.Reading.{readCoded, readPlain, matching, valueOf};
+ghost use Rattle.reading.specs.InnerCursor.{lowered, Seen, foundIn, formed, TwoBytes, told, toldOf, Within, Leads, Behind, Onward, OnwardOf};
+use compiled::Form;
+
+// A place in a stream of bits, and the number of the current table.
+pub struct Cursor {
+    pub at: usize,
+    pub table: usize,
+}
+
+// What reading a value answers: the value, 131,072 added, and the moved cursor; or that the code matches nothing or runs out.
+pub enum Read {
+    Value(usize, Cursor),
+    Stuck,
+}
+
+// What a burst of codes comes to: an answer, or the place where reading goes on.
+pub enum Burst {
+    Ended(Read),
+    More(Cursor),
+}
+
+// The form of the structure whose prefix the bits begin with.
+pub enum Found {
+    At(Form),
+    Nothing,
+}
+
+// The window begins with a form's prefix, where so many bits are left.
+fn begins_with(f: Form, w: u64, left: usize) -> bool
+    requires { ⌜ (1 ≤ f .prefix) × (f .prefix ≤ 32) ⌝ }
+    ensures { λ r. ⌜ ((c : Structure) (bs : List ℕ) → formOf c ≡ f → Seen bs w left → r ≡ begins (prefixOf c) bs) ⌝ }
+{
+    let p = f.prefix;
+    if left < p {
+        return false;
+    }
+    bits::top(w, p) == f.word as u64
+}
+
+// The form of the structure of table t, counted from 0, whose prefix the window begins with.
+fn find(tab: &[u32], t: usize, w: u64, left: usize) -> Found
+    requires { ⌜ Held (now tab) × (t < 8) ⌝ }
+    ensures { λ r. ⌜ ((tables : List (List Structure)) (bs : List ℕ) → Ready tables (now (tab .entry)) → Seen bs w left → foundIn r ≡ formed (matching (getD tables t []) bs)) ⌝ }
+{
+    let n = tab[t * 385] as usize;
+    let mut k = 0;
+    while k < n {
+        let f = compiled::form_at(tab, t, k);
+        if begins_with(f, w, left) {
+            return Found::At(f);
+        }
+        k += 1;
+    }
+    Found::Nothing
+}
+
+// A number in two's complement of one bit more than `half` has noughts, 131,072 added.
+fn raised(n: usize, half: usize) -> usize
+    requires { ⌜ (1 ≤ half) × (half ≤ 32768) × (n < 2 * half) ⌝ }
+    ensures { λ r. ⌜ ((w : ℕ) → half ≡ 2 ^ w → lowered r ≡ signed (suc w) n) × (r < 262144) ⌝ }
+{
+    if n < half {
+        return 131072 + n;
+    }
+    131072 + n - 2 * half
+}
+
+// The value of a matched form that is no switch, and the cursor behind its code.
+fn value_of(f: Form, w: u64, left: usize, c: Cursor) -> Read
+    requires { ⌜ ((d : Structure) × (formOf d ≡ f) × (structureRight 8 d ≡ true) × (f .to ≡ 0)) × (f .prefix ≤ left) × (c .at ≤ 8388608) ⌝ }
+    ensures told { λ r. ⌜ ((d : Structure) (bs : List ℕ) → formOf d ≡ f → structureRight 8 d ≡ true → d .base < 65536 → Seen (drop (c .at) bs) w left → told bs r ≡ valueOf (remainderOf d) (d .base) (c .table) (drop (d .prefix) (drop (c .at) bs))) ⌝ }
+    ensures onward { λ r. ⌜ Behind (c .at) left (c .table) r ⌝ }
+{
+    let at = c.at;
+    let table = c.table;
+    let p = f.prefix;
+    let q = f.remainder;
+    if q == 0 {
+        return Read::Value(f.lo, Cursor { at: at + p, table });
+    }
+    if left < p + q {
+        return Read::Stuck;
+    }
+    let n = bits::after(w, p, q) as usize;
+    Read::Value(
+        raised(n, 131072 - f.lo),
+        Cursor {
+            at: at + p + q,
+            table,
+        },
+    )
+}
+
+impl Cursor {
+    // Where a lead starts: its first bit, in table 1.
+    pub fn new() -> Self
+        ensures { λ r. ⌜ (r .at ≡ 0) × (r .table ≡ 1) ⌝ }
+    {
+        Cursor { at: 0, table: 1 }
+    }
+
+    // A code is matched in the current table: a value ends the step, a switch is followed.
+    fn burst(self, s: &[u8], tab: &[u32], depth: usize) -> Burst
+        requires { ⌜ Held (now tab) × (length (now s) ≤ 1048576) × Within (length (now s) * 8) self ⌝ }
+        ensures told { λ r. ⌜ ((tables : List (List Structure)) → Ready tables (now (tab .entry)) → TwoBytes tables → toldOf tables (bitsIn (now (s .entry))) r ≡ readCoded tables (self .table) (drop (self .at) (bitsIn (now (s .entry))))) ⌝ }
+        ensures onward { λ r. ⌜ OnwardOf (self .at) (length (now (s .entry)) * 8) r ⌝ }
+    {
+        let at = self.at;
+        let t = self.table - 1;
+        let left = s.len() * 8 - at;
+        let w = bits::window(s, at);
+        match find(tab, t, w, left) {
+            Found::At(f) => {
+                if f.to == 0 {
+                    return Burst::Ended(value_of(f, w, left, self));
+                }
+                self.follow(s, tab, depth, f)
+            }
+            Found::Nothing => Burst::Ended(Read::Stuck),
+        }
+    }
+
+    // A switch gives no value: reading carries on in the table that it leads to, or hands back the cursor where the depth is used up.
+    fn follow(self, s: &[u8], tab: &[u32], depth: usize, f: Form) -> Burst
+        requires { ⌜ Held (now tab) × (length (now s) ≤ 1048576) × Within (length (now s) * 8) self × Leads (self .at) (length (now s) * 8) f ⌝ }
+        ensures told { λ r. ⌜ ((tables : List (List Structure)) → Ready tables (now (tab .entry)) → TwoBytes tables → toldOf tables (bitsIn (now (s .entry))) r ≡ readCoded tables (f .to) (drop (self .at + f .prefix) (bitsIn (now (s .entry))))) ⌝ }
+        ensures onward { λ r. ⌜ OnwardOf (self .at) (length (now (s .entry)) * 8) r ⌝ }
+    {
+        let at = self.at;
+        let p = f.prefix;
+        let table = f.to;
+        let next = Cursor { at: at + p, table };
+        if depth == 0 {
+            return Burst::More(next);
+        }
+        next.burst(s, tab, depth - 1)
+    }
+
+    // The next value of a stream that is coded by tables.
+    pub fn coded(self, s: &[u8], tab: &[u32]) -> Read
+        requires { ⌜ Held (now tab) × (length (now s) ≤ 1048576) × Within (length (now s) * 8) self ⌝ }
+        ensures told { λ r. ⌜ ((tables : List (List Structure)) → Ready tables (now (tab .entry)) → TwoBytes tables → told (bitsIn (now (s .entry))) r ≡ readCoded tables (self .table) (drop (self .at) (bitsIn (now (s .entry))))) ⌝ }
+        ensures onward { λ r. ⌜ Onward (self .at) (length (now (s .entry)) * 8) r ⌝ }
+    {
+        let mut c = self;
+        loop {
+            match c.burst(s, tab, 64) {
+                Burst::Ended(r) => {
+                    return r;
+                }
+                Burst::More(d) => {
+                    c = d;
+                }
+            }
+        }
+    }
+
+    // The next value of a stream without tables: two signed bytes.
+    pub fn plain(self, s: &[u8]) -> Read
+        requires { ⌜ (length (now s) ≤ 1048576) × Within (length (now s) * 8) self ⌝ }
+        ensures told { λ r. ⌜ told (bitsIn (now (s .entry))) r ≡ readPlain (self .table) (drop (self .at) (bitsIn (now (s .entry)))) ⌝ }
+        ensures onward { λ r. ⌜ Onward (self .at) (length (now (s .entry)) * 8) r ⌝ }
+    {
+        let at = self.at;
+        let table = self.table;
+        if s.len() * 8 - at < 16 {
+            return Read::Stuck;
+        }
+        let w = bits::window(s, at);
+        let n = bits::top(w, 8) as usize + bits::after(w, 8, 8) as usize * 256;
+        Read::Value(raised(n, 32768), Cursor { at: at + 16, table })
+    }
+}
