@@ -1,0 +1,89 @@
+-- The cursor stays within the stream's bits, and the values that are left fall.
+use Prim.Native.Nat.{_*_}
+use mathlib.Core.Path.{subst}
+use native.Mathlib.Omega.{arith}
+use borrow.Author.Needs.{needs}
+use lib.ListN.{length}
+use Rattle.reading.specs.InnerCursor.{Within, Onward}
+use Rattle.streams.proofs.show_plain.Statement.{statement}
+use Rattle.streams.proofs.show_plain.Tie as tie
+
+abbrev Inv-loop : tie.InvT-loop
+Inv-loop stream count c₀ left₀ t7 c left = Within (length stream * 8) c
+
+abbrev μ-loop : tie.MeasureT-loop
+μ-loop stream count c₀ left₀ t7 c left = left
+
+returns : tie.Need-returns Inv-loop μ-loop
+returns c = search needs
+
+new-requires : tie.Need-new-requires Inv-loop μ-loop
+new-requires c κs = search needs
+
+loop-holds : tie.Need-loop-holds Inv-loop μ-loop
+loop-holds c = omega arith
+
+plain-requires : tie.Need-plain-requires Inv-loop μ-loop
+plain-requires c κs = (omega arith, c .before .loop .inv)
+
+enum-known-x : tie.Need-enum-known-x Inv-loop μ-loop
+enum-known-x c = search needs
+
+put-value-requires : tie.Need-put-value-requires Inv-loop μ-loop
+put-value-requires c κs = search needs
+
+sub-left : tie.Need-sub-left Inv-loop μ-loop
+sub-left c = omega arith
+
+loop-less : tie.Need-loop-less Inv-loop μ-loop
+loop-less c = omega arith
+
+loop-again : tie.Need-loop-again Inv-loop μ-loop
+loop-again c =
+    let told = c .before .before .before .before in
+    let bits = length (c .before .before .before .before .before .before .before .before .before .before .args .stream .now) * 8 in
+    subst (Onward (told .before .before .loop .c .at) bits) (c .before .before .x .given .1) (told .plain .ensures .1) .1
+
+enum-told : tie.Need-enum-told Inv-loop μ-loop
+enum-told c = search needs
+
+slice-aggregate-put : tie.Need-slice-aggregate-put Inv-loop μ-loop
+slice-aggregate-put c = search needs
+
+put-requires : tie.Need-put-requires Inv-loop μ-loop
+put-requires c κs = search needs
+
+loop-less-2 : tie.Need-loop-less-2 Inv-loop μ-loop
+loop-less-2 c = omega arith
+
+loop-again-2 : tie.Need-loop-again-2 Inv-loop μ-loop
+loop-again-2 c = c .before .before .before .before .before .before .loop .inv
+
+put-end-requires : tie.Need-put-end-requires Inv-loop μ-loop
+put-end-requires c κs = search needs
+
+returns-2 : tie.Need-returns-2 Inv-loop μ-loop
+returns-2 c = search needs
+
+pub show-plain-spec : {M : Type 1} → statement M
+show-plain-spec =
+    tie.close
+    (tie.spec
+    Inv-loop
+    μ-loop
+    returns
+    new-requires
+    loop-holds
+    plain-requires
+    enum-known-x
+    put-value-requires
+    sub-left
+    loop-less
+    loop-again
+    enum-told
+    slice-aggregate-put
+    put-requires
+    loop-less-2
+    loop-again-2
+    put-end-requires
+    returns-2)
