@@ -1,7 +1,7 @@
 -- Bits (01, Code tables; P3 and P5 have streams to hold the order against). A bit is 0 or 1; a stream of bits is a list, in the order
 -- in which they are read.
 use Prim.Native.Nat.{ℕ, zero, suc, _+_, _-_, _*_, _/_, _%_, _^_}
-use mathlib.Core.Bool.{Bool, true, false, _&&_}
+use mathlib.Core.Bool.{Bool, true, false, _&&_, cond}
 use mathlib.Core.List.{List, [], _∷_, _++_}
 use lib.IntN.{ℤ, pos, negsuc}
 use lib.Dec.{ltb, eqb}
@@ -29,14 +29,10 @@ numberAfter a (b ∷ bs) = numberAfter (a * 2 + b) bs
 abbrev pub numberOf : List ℕ → ℕ
 numberOf bs = numberAfter 0 bs
 
-abbrev pub pickWhole : Bool → ℤ → ℤ → ℤ
-pickWhole true a b = a
-pickWhole false a b = b
-
 -- the whole number that w bits are in two's complement, n being the number that they are without a sign; `negsuc m` is -(m + 1), so
 -- that the second case is n - 2^w
 unfoldable pub signed : ℕ → ℕ → ℤ
-signed w n = pickWhole (ltb n (2 ^ (w - 1))) (pos n) (negsuc (2 ^ w - suc n))
+signed w n = cond (ltb n (2 ^ (w - 1))) (pos n) (negsuc (2 ^ w - suc n))
 
 -- the first list begins the second, or equals it
 unfoldable pub begins : List ℕ → List ℕ → Bool

@@ -25,7 +25,7 @@ use Rattle.tables.proofs.Laws.{fine, RightTable, table-right, every-at}
 use Rattle.compiled.specs.declared.Form.{Form}
 use Rattle.compiled.specs.InnerForm.{lowest, formOf, Ready}
 use Rattle.compiled.proofs.Laws.{FineForm, form-fine, held-right}
-use Rattle.reading.specs.Reading.{Next, gave, stuck, pickMatch, matching, valueOf, afterMatch, readWithin, readCoded}
+use Rattle.reading.specs.Reading.{Next, gave, stuck, matching, valueOf, afterMatch, readWithin, readCoded}
 use Rattle.reading.specs.InnerCursor.{lowered, Seen, TwoBytes, formed, Behind, Onward, OnwardOf}
 use Rattle.reading.specs.declared.Read.{Read}
 use Rattle.reading.specs.declared.Read.the-variants.{Value, Stuck}
@@ -99,7 +99,7 @@ unfolding matching
 matched [] bs c h = let z : _≡_ {A = ℕ} 0 1 = cc in absurd (omega arith)
 matched (d ∷ cs) bs c h = go (begins (prefixOf d) bs) refl h (matched cs bs c)
   where
-    go : (b : Bool) → begins (prefixOf d) bs ≡ b → pickMatch b (some d) (matching cs bs) ≡ some c
+    go : (b : Bool) → begins (prefixOf d) bs ≡ b → cond b (some d) (matching cs bs) ≡ some c
         → (matching cs bs ≡ some c → Matched cs bs c) → Matched (d ∷ cs) bs c
     go true e g behind =
         let same : d ≡ c = cc in

@@ -1,14 +1,13 @@
 -- What the bit cursor and its methods say, of the reading rule. No public contract rests on this.
 use Prim.Native.Nat.{ℕ, zero, suc, _+_, _-_, _*_, _≤_, _<_}
 use mathlib.Core.Path.{_≡_}
-use mathlib.Core.Bool.{Bool, true, false}
+use mathlib.Core.Bool.{cond}
 use mathlib.Core.List.{List, []}
 use mathlib.Core.Option.{Option, none, some}
 use lib.IntN.{ℤ, pos, negsuc}
 use lib.Dec.{ltb}
 use lib.ListN.{length, getD, drop}
 use Rattle.bits.specs.InnerWindow.{Window}
-use Rattle.bits.specs.Bits.{pickWhole}
 use Rattle.tables.specs.declared.Structure.{Structure}
 use Rattle.tables.specs.Structures.{noStructure}
 use Rattle.compiled.specs.declared.Form.{Form}
@@ -24,7 +23,7 @@ use Rattle.reading.specs.declared.Burst.the-variants.{Ended, More}
 
 -- the whole number of which x is 131,072 more: the engines hold values so, without a sign
 unfoldable pub lowered : ℕ → ℤ
-lowered x = pickWhole (ltb x 131072) (negsuc (131071 - x)) (pos (x - 131072))
+lowered x = cond (ltb x 131072) (negsuc (131071 - x)) (pos (x - 131072))
 
 -- the bits bs, of which so many are left, are seen through a window
 pub record Seen (bs : List ℕ) (w left : ℕ) : Type 0 where

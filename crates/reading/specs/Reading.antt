@@ -1,7 +1,7 @@
 -- The reading rule (01, Code tables): match a code in the current table; a value ends the step, a switch carries on with the next
--- code in the new table. `tables` are those that Section 2's data mean; none stand for a record without Section 2.
+-- code in the new table. `tables` are those that Section 2's data mean; the empty list stands for a record without Section 2.
 use Prim.Native.Nat.{ℕ, zero, suc, _+_, _*_}
-use mathlib.Core.Bool.{Bool, true, false}
+use mathlib.Core.Bool.{cond}
 use mathlib.Core.List.{List, [], _∷_}
 use mathlib.Core.Option.{Option, none, some}
 use lib.IntN.{ℤ}
@@ -18,31 +18,23 @@ pub data Next : Type 0 where
   gave : ℤ → ℕ → List ℕ → Next
   stuck : Next
 
-abbrev pub pickNext : Bool → Next → Next → Next
-pickNext true a b = a
-pickNext false a b = b
-
-abbrev pub pickMatch : Bool → Option Structure → Option Structure → Option Structure
-pickMatch true a b = a
-pickMatch false a b = b
-
--- the structure of a table whose prefix the bits begin with
+-- the structure of a table whose prefix the bits begin with; in a table that keeps its rule there is at most one
 unfoldable pub matching : List Structure → List ℕ → Option Structure
 matching [] bs = none
-matching (c ∷ cs) bs = pickMatch (begins (prefixOf c) bs) (some c) (matching cs bs)
+matching (c ∷ cs) bs = cond (begins (prefixOf c) bs) (some c) (matching cs bs)
 
 -- a value, from the bits behind its prefix: the base value if the two lengths are equal; else so many bits, the most significant
 -- first, are the value itself in two's complement
 unfoldable pub valueOf : ℕ → ℕ → ℕ → List ℕ → Next
 valueOf zero base table bs = gave (signed 16 base) table bs
 valueOf (suc r) base table bs =
-    pickNext (leb (suc r) (length bs)) (gave (signed (suc r) (numberOf (take (suc r) bs))) table (drop (suc r) bs)) stuck
+    cond (leb (suc r) (length bs)) (gave (signed (suc r) (numberOf (take (suc r) bs))) table (drop (suc r) bs)) stuck
 
 -- what a matched structure does: a switch gives no value, and reading carries on in the table that its base value numbers
 unfoldable pub afterMatch : (ℕ → List ℕ → Next) → Option Structure → ℕ → List ℕ → Next
 afterMatch carryOn none table bs = stuck
 afterMatch carryOn (some c) table bs =
-    pickNext (eqb (c .mode) 0) (carryOn (c .base) (drop (c .prefix) bs)) (valueOf (remainderOf c) (c .base) table (drop (c .prefix) bs))
+    cond (eqb (c .mode) 0) (carryOn (c .base) (drop (c .prefix) bs)) (valueOf (remainderOf c) (c .base) table (drop (c .prefix) bs))
 
 -- a value read by at most so many codes
 unfoldable pub readWithin : ℕ → List (List Structure) → ℕ → List ℕ → Next
@@ -57,7 +49,7 @@ readCoded tables table bs = readWithin (length bs) tables table bs
 -- with no Section 2 a value is two signed bytes, the least first
 unfoldable pub readPlain : ℕ → List ℕ → Next
 readPlain table bs =
-    pickNext (leb 16 (length bs))
+    cond (leb 16 (length bs))
     (gave (signed 16 (numberOf (take 8 bs) + numberOf (take 8 (drop 8 bs)) * 256)) table (drop 16 bs))
     stuck
 
