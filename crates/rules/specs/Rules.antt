@@ -1,0 +1,67 @@
+-- Refusals 7 to 10, a rule each, over the bytes r of a record (01, Leads and samples; 01, Refusal numbers), and the smallest of 1 to 10.
+use Prim.Native.Nat.{ℕ}
+use mathlib.Core.Bool.{Bool, not, _&&_, _||_, cond}
+use mathlib.Core.List.{List}
+use lib.Dec.{leb, eqb}
+use Rattle.wire.specs.Rules.{unless}
+use Rattle.pointers.specs.Pointers.{dataAt, present, sectionOf}
+use Rattle.record.specs.Opening.{openRefusal, opens}
+use Rattle.tables.specs.Section2.{section2Right}
+use Rattle.entries.specs.Leads.{leadCount, subtracted, section3Right}
+use Rattle.entries.specs.Streams.{stepOf, intervalOf, bimodalOf, streamsRight, section6Right}
+use Rattle.entries.specs.Beat.{beatLength, beatSamples, section4Right}
+
+-- 7: Section 2 is absent, or keeps its rule, with at most one spare byte
+unfoldable pub tablesRight : List ℕ → Bool
+tablesRight r = not (present r 2) || section2Right 1 (sectionOf r 2) dataAt
+
+-- how many leads the record has, and whether a reference beat was subtracted from them
+abbrev pub leadsOf : List ℕ → ℕ
+leadsOf r = leadCount (sectionOf r 3)
+
+unfoldable pub hasBeat : List ℕ → Bool
+hasBeat r = present r 3 && subtracted (sectionOf r 3)
+
+-- the beat has N samples, by Section 5's interval
+unfoldable pub beatCount : List ℕ → ℕ
+beatCount r = beatSamples (beatLength (sectionOf r 4)) (intervalOf (sectionOf r 5))
+
+-- Sections 4 and 5 are needed where a beat was subtracted, and are judged only then
+unfoldable pub beatRight : List ℕ → Bool
+beatRight r =
+    not (hasBeat r)
+    || (present r 4
+    && (present r 5
+    && (streamsRight (leadsOf r) (sectionOf r 5) && section4Right (beatCount r) (sectionOf r 4))))
+
+-- Section 6 is absent, or keeps its rule
+unfoldable pub rhythmRight : List ℕ → Bool
+rhythmRight r = not (present r 6) || section6Right (leadsOf r) (sectionOf r 6)
+
+-- 8: Sections 3 to 6 keep their rules; there is no Section 6 without 3
+unfoldable pub leadsRight : List ℕ → Bool
+leadsRight r =
+    cond (present r 3)
+    (section3Right (sectionOf r 3) && (beatRight r && rhythmRight r))
+    (not (present r 6))
+
+-- Sections 5 and 6 agree in step and interval where both are used
+unfoldable pub stepsAgree : List ℕ → Bool
+stepsAgree r =
+    not (hasBeat r)
+    || (eqb (stepOf (sectionOf r 5)) (stepOf (sectionOf r 6)) && eqb (intervalOf (sectionOf r 5)) (intervalOf (sectionOf r 6)))
+
+-- 9: bimodal is 0, and steps and intervals agree
+unfoldable pub agrees : List ℕ → Bool
+agrees r = not (present r 6) || (eqb (bimodalOf (sectionOf r 6)) 0 && stepsAgree r)
+
+-- 10: there are Sections 3 and 6, and a lead at the place asked for, counted from 1
+unfoldable pub hasLead : List ℕ → ℕ → Bool
+hasLead r place = present r 3 && (present r 6 && (leb 1 place && leb place (leadsOf r)))
+
+-- the smallest of 1 to 10 that applies, and 0 where none does
+unfoldable pub leadRefusal : List ℕ → ℕ → ℕ
+leadRefusal r place =
+    cond (opens r)
+    (unless (tablesRight r) 7 (unless (leadsRight r) 8 (unless (agrees r) 9 (unless (hasLead r place) 10 0))))
+    (openRefusal r)

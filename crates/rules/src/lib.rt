@@ -1,0 +1,178 @@
+// The rules that reading a lead asks of a record before any stream is read (01, Leads and samples; refusals 7 to 10), each alone, and the
+// smallest of 1 to 10 that applies. All leads' entries are judged, whatever place is asked for.
+ghost use mathlib.Core.Path.{_≡_};
+ghost use Prim.Native.Nat.{_<_, _≤_};
+ghost use Rattle.wire.specs.Numbers.{numberAt};
+ghost use Rattle.pointers.specs.Pointers.{sectionOf};
+ghost use Rattle.entries.specs.Streams.{intervalOf};
+ghost use Rattle.rules.specs.Rules.{tablesRight, leadsOf, hasBeat, beatCount, beatRight, rhythmRight, leadsRight, stepsAgree, agrees, hasLead, leadRefusal};
+
+// 7: Section 2 is absent or keeps its rule.
+pub fn tables_right(rec: &[u8]) -> bool
+    ensures { λ r. ⌜ r ≡ tablesRight (now (rec .entry)) ⌝ }
+{
+    if !pointers::is_present(rec, 2) {
+        return true;
+    }
+    tables::section2_right(pointers::section_of(rec, 2), 16, 1)
+}
+
+// How many leads Section 3 says.
+pub fn leads_of(rec: &[u8]) -> usize
+    ensures { λ r. ⌜ (r ≡ leadsOf (now (rec .entry))) × (r < 256) ⌝ }
+{
+    wire::byte(pointers::section_of(rec, 3), 16)
+}
+
+// A reference beat was subtracted.
+pub fn has_beat(rec: &[u8]) -> bool
+    ensures { λ r. ⌜ r ≡ hasBeat (now (rec .entry)) ⌝ }
+{
+    if !pointers::is_present(rec, 3) {
+        return false;
+    }
+    if wire::byte(pointers::section_of(rec, 3), 17) % 2 != 1 {
+        return false;
+    }
+    true
+}
+
+// How many samples the beat has.
+pub fn beat_count(rec: &[u8]) -> usize
+    requires { ⌜ 0 < intervalOf (sectionOf (now rec) 5) ⌝ }
+    ensures { λ r. ⌜ (r ≡ beatCount (now (rec .entry))) × (r ≤ 65535000) ⌝ }
+{
+    let ms = wire::number16(pointers::section_of(rec, 4), 16);
+    let interval = wire::number16(pointers::section_of(rec, 5), 18);
+    entries::beat_samples(ms, interval)
+}
+
+// Sections 4 and 5, where a beat was subtracted from the n leads.
+fn beat_right(rec: &[u8], n: usize) -> bool
+    requires { ⌜ (n ≡ leadsOf (now rec)) × (n ≤ 32) ⌝ }
+    ensures { λ r. ⌜ r ≡ beatRight (now (rec .entry)) ⌝ }
+{
+    if !has_beat(rec) {
+        return true;
+    }
+    if !pointers::is_present(rec, 4) {
+        return false;
+    }
+    if !pointers::is_present(rec, 5) {
+        return false;
+    }
+    if !entries::streams_right(pointers::section_of(rec, 5), n) {
+        return false;
+    }
+    entries::section4_right(pointers::section_of(rec, 4), beat_count(rec))
+}
+
+// Section 6, if it is present, for n leads.
+fn rhythm_right(rec: &[u8], n: usize) -> bool
+    requires { ⌜ (n ≡ leadsOf (now rec)) × (n ≤ 32) ⌝ }
+    ensures { λ r. ⌜ r ≡ rhythmRight (now (rec .entry)) ⌝ }
+{
+    if !pointers::is_present(rec, 6) {
+        return true;
+    }
+    entries::section6_right(pointers::section_of(rec, 6), n)
+}
+
+// 8: Sections 3 to 6 keep their rules.
+pub fn leads_right(rec: &[u8]) -> bool
+    ensures { λ r. ⌜ r ≡ leadsRight (now (rec .entry)) ⌝ }
+{
+    if !pointers::is_present(rec, 3) {
+        if pointers::is_present(rec, 6) {
+            return false;
+        }
+        return true;
+    }
+    if !entries::section3_right(pointers::section_of(rec, 3)) {
+        return false;
+    }
+    let n = leads_of(rec);
+    if !beat_right(rec, n) {
+        return false;
+    }
+    rhythm_right(rec, n)
+}
+
+// The number in two bytes at a place of section k.
+fn number_in(rec: &[u8], k: usize, at: usize) -> usize
+    requires { ⌜ k < 64 ⌝ }
+    ensures { λ r. ⌜ (r ≡ numberAt 2 (sectionOf (now (rec .entry)) k) at) × (r < 65536) ⌝ }
+{
+    wire::number16(pointers::section_of(rec, k), at)
+}
+
+// Steps and intervals agree where a beat was subtracted.
+fn steps_agree(rec: &[u8]) -> bool
+    ensures { λ r. ⌜ r ≡ stepsAgree (now (rec .entry)) ⌝ }
+{
+    if !has_beat(rec) {
+        return true;
+    }
+    if number_in(rec, 5, 16) != number_in(rec, 6, 16) {
+        return false;
+    }
+    if number_in(rec, 5, 18) != number_in(rec, 6, 18) {
+        return false;
+    }
+    true
+}
+
+// 9: bimodal is 0, and steps and intervals agree.
+pub fn is_agreed(rec: &[u8]) -> bool
+    ensures { λ r. ⌜ r ≡ agrees (now (rec .entry)) ⌝ }
+{
+    if !pointers::is_present(rec, 6) {
+        return true;
+    }
+    if wire::byte(pointers::section_of(rec, 6), 21) != 0 {
+        return false;
+    }
+    steps_agree(rec)
+}
+
+// 10: there is a lead at the place asked for.
+pub fn has_lead(rec: &[u8], place: usize) -> bool
+    ensures { λ r. ⌜ r ≡ hasLead (now (rec .entry)) place ⌝ }
+{
+    if !pointers::is_present(rec, 3) {
+        return false;
+    }
+    if !pointers::is_present(rec, 6) {
+        return false;
+    }
+    if place < 1 {
+        return false;
+    }
+    if leads_of(rec) < place {
+        return false;
+    }
+    true
+}
+
+// The smallest of 1 to 10 that applies, or 0.
+pub fn lead_refusal(rec: &[u8], place: usize) -> u8
+    ensures { λ r. ⌜ r ≡ leadRefusal (now (rec .entry)) place ⌝ }
+{
+    let refusal = record::refusal_of(rec);
+    if refusal != 0 {
+        return refusal;
+    }
+    if !tables_right(rec) {
+        return 7;
+    }
+    if !leads_right(rec) {
+        return 8;
+    }
+    if !is_agreed(rec) {
+        return 9;
+    }
+    if !has_lead(rec, place) {
+        return 10;
+    }
+    0
+}
