@@ -2,14 +2,15 @@
  * scp.h: the C interface of libscp.a, the proved SCP-ECG library.
  *
  * Make the archive by `rt staticlib scp` (it is for x86-64), include this file, link target/staticlib/libscp.a.
- * The library allocates nothing, keeps nothing between calls, does no input or output, and needs under 64 KiB of stack.
+ * The library allocates nothing, keeps nothing between calls, does no input or output, and needs under 256 KiB of stack
+ * a call.
  *
  * What holds for every call:
  *   - Lent bytes are a pointer and a length. A call reads and writes nothing outside them.
  *   - Any bytes and any numbers may be given, and every call ends.
  *   - `refusal` is 0 (accepted) or the number of the rule that is broken, the smallest if there are several (below).
- *   - With a refusal every other field of the answer is 0 and no lent byte is changed.
- *   - Places (`start`, `next`, `at`) count bytes from 0; an occurrence counts from 1.
+ *   - With a refusal every other field of the answer is 0 and no lent byte is changed, but for work space (scp_read_lead).
+ *   - Places of bytes (`start`, `next`, `at`) count from 0; an occurrence and a lead's place count from 1.
  *     A pointer's index is as the record stores it: it counts the record's bytes from 1.
  *
  * The refusals of the calls below:
@@ -19,7 +20,14 @@
  *    4  a section's place, length or header breaks its rules, or Section 1 is absent
  *    5  a section's check differs
  *    6  Section 1's data break their rules
- *   10  there is no such field
+ *    7  Section 2 breaks its rules or bounds
+ *    8  Sections 3 to 6 break their rules or bounds, or one that is needed is absent
+ *    9  there is bimodal compression, or Sections 5 and 6 differ in step or interval
+ *   10  there is no such field, no lead at that place, or no Section 3 or 6
+ *   11  the output or the work space is too short
+ *   12  a value's code matches nothing, or the stream ends in it
+ *   13  a sample does not fit 16 bits
+ *   14  8 or more bits are left after the last sample
  */
 #ifndef SCP_H
 #define SCP_H
@@ -34,6 +42,12 @@ extern "C" {
 /* The most pointers that a record has, and the room in numbers that scp_open asks for. */
 #define SCP_POINTERS_MAX 64
 #define SCP_POINTERS_ROOM (3 * SCP_POINTERS_MAX)
+
+/* The most samples that a lead has, and the most that a reference beat has: so much room is always enough. */
+#define SCP_SAMPLES_MAX 65536
+
+/* The most leads that a record has. */
+#define SCP_LEADS_MAX 32
 
 /* What opening a record answers. */
 typedef struct {
@@ -52,6 +66,21 @@ typedef struct {
     uint8_t more, tag;          /* more is 1: a field is shown; 0: the end (tag, start and length 0, next the place asked) */
     size_t start, length, next; /* the field's bytes, without its tag and length, and the place of the next step */
 } ScpStep;
+
+/* A lead that was read; its samples are in the output. */
+typedef struct {
+    uint8_t refusal, id, flags; /* the flags are Section 3's, for all leads; bit 0: a reference beat was subtracted */
+    uint16_t step, interval;    /* the step of a sample in nanovolts, the interval between two in microseconds */
+    uint32_t first, count;      /* the number of the first sample, and how many there are */
+} ScpLead;
+
+/* What a record says of a lead, its stream unread. */
+typedef struct {
+    uint8_t refusal, id, flags, order; /* the order is that of the differences stored in Section 6: 0, 1 or 2 */
+    uint16_t step, interval;
+    uint32_t first, last;  /* the numbers of the first and the last sample */
+    uint32_t leads, bytes; /* how many leads the record has, and how many bytes this one's stream has in Section 6 */
+} ScpEntry;
 
 /* CRC-CCITT of n bytes: polynomial 1021 hex, preset FFFF, most significant bit first, no final change. Never refused. */
 uint16_t scp_crc(const uint8_t *p, size_t n);
@@ -80,6 +109,31 @@ ScpPart scp_walk_start(const uint8_t *record, size_t n);
  * may be given. Never refused.
  */
 ScpStep scp_walk_step(const uint8_t *section, size_t n, size_t at);
+
+/*
+ * Reads the lead at a place of Section 3, from 1: every sample as it was before it was coded, with the reference beat
+ * added back where one was subtracted. The first `count` elements of the output are changed and no others; none on
+ * refusal. Nothing is shown of a lead in which anything is wrong.
+ *
+ * Work space is needed where bit 0 of the flags is 1, an element for each sample of the beat; elsewhere none is. All of
+ * what was lent, however long, is zeros once the reading of a beat has begun: with refusals 12 to 14 and with acceptance,
+ * where bit 0 is 1. Otherwise it is untouched. Output and work space are lent apart: they share no element.
+ *
+ * Refusals: the smallest of 1 to 11 that applies; then the beat's stream is read, then the lead's, then the sums are
+ * made, and the first fault met decides, 12 to 14. All leads' entries are judged whatever place is asked for; another
+ * lead's stream is not met.
+ */
+ScpLead scp_read_lead(const uint8_t *record, size_t n, size_t place, int16_t *out, size_t out_n, int16_t *work,
+                      size_t work_n);
+
+/* Shows what a record says of the lead at a place of Section 3, from 1, judged as reading is: refusals 1 to 10. */
+ScpEntry scp_lead(const uint8_t *record, size_t n, size_t place);
+
+/*
+ * 1 if the record breaks the rule of a row, 1 to 9, asked alone; else 0, as for every other row. The answer means its row
+ * where the rules of all smaller rows are kept; of other bytes it is 0 or 1, and no more. Never refused.
+ */
+uint8_t scp_breaks(const uint8_t *record, size_t n, uint8_t row);
 
 #ifdef __cplusplus
 }

@@ -9,6 +9,8 @@ use Rattle.bits.specs.Bits.{lowBits, bitsIn}
 use Rattle.tables.specs.declared.Structure.{Structure}
 use Rattle.tables.specs.Section2.{tablesIn, section2Right}
 use Rattle.reading.specs.Reading.{Next, gave, stuck, readNext}
+use Rattle.samples.specs.Differences.{differences}
+use Rattle.entries.specs.Beat.{beatSamples}
 use Rattle.fields.specs.Identifier.{same}
 
 -- Section 2's data of the two tables of 000, C.2.7.3
@@ -38,6 +40,10 @@ unfoldable pub readMany : ℕ → List (List Structure) → ℕ → List ℕ →
 readMany zero tables table bs = values [] (length bs)
 readMany (suc n) tables table bs = onward (readMany n tables) (readNext tables table bs)
 
+-- the samples of P1 and P2
+unfoldable pub eight : List ℤ
+eight = pos 10 ∷ pos 12 ∷ pos 13 ∷ pos 15 ∷ pos 18 ∷ pos 22 ∷ pos 20 ∷ pos 15 ∷ []
+
 -- the identifiers 007 and 7, as the fields `02 04 00 30 30 37 00` and `02 02 00 37 00` show them
 unfoldable pub id007 : List ℕ
 id007 = 48 ∷ 48 ∷ 55 ∷ 0 ∷ []
@@ -46,6 +52,9 @@ unfoldable pub id7 : List ℕ
 id7 = 55 ∷ 0 ∷ []
 
 pub record Examples : Type 0 where
+  -- P1, P2: what orders 1 and 2 store for these samples
+  pub p1 : differences 1 eight ≡ pos 10 ∷ pos 2 ∷ pos 1 ∷ pos 2 ∷ pos 3 ∷ pos 4 ∷ negsuc 1 ∷ negsuc 4 ∷ []
+  pub p2 : differences 2 eight ≡ pos 10 ∷ pos 12 ∷ negsuc 0 ∷ pos 1 ∷ pos 1 ∷ pos 1 ∷ negsuc 5 ∷ negsuc 2 ∷ []
   -- P3: by the default table these bytes read to 14 18 0 -4 -9 -1 5; of their 72 bits 71 are taken
   pub p3 : readMany 7 (tablesIn namedDefault 0) 1 (bitsIn (255 ∷ 131 ∷ 191 ∷ 225 ∷ 39 ∷ 191 ∷ 247 ∷ 189 ∷ 248 ∷ []))
       ≡ values (pos 14 ∷ pos 18 ∷ pos 0 ∷ negsuc 3 ∷ negsuc 8 ∷ negsuc 0 ∷ pos 5 ∷ []) 1
@@ -56,5 +65,7 @@ pub record Examples : Type 0 where
   pub p5 : readMany 20 (tablesIn twoTables 0) 1 (bitsIn (153 ∷ 94 ∷ 6 ∷ 240 ∷ 72 ∷ 222 ∷ 128 ∷ 253 ∷ 1 ∷ 189 ∷ 54 ∷ 192 ∷ []))
       ≡ values (pos 1 ∷ pos 2 ∷ negsuc 0 ∷ pos 0 ∷ pos 3 ∷ pos 0 ∷ pos 4 ∷ pos 1 ∷ pos 0 ∷ negsuc 1 ∷ pos 0 ∷ pos 15 ∷ negsuc 0 ∷ pos 0 ∷ pos 13 ∷ pos 0
       ∷ pos 1 ∷ negsuc 1 ∷ negsuc 0 ∷ pos 1 ∷ []) 4
+  -- P8: a beat of 1,000 ms has 500 samples 2,000 µs apart
+  pub p8 : beatSamples 1000 2000 ≡ 500
   -- P10: identifiers 007 and 7 differ
   pub p10 : same id007 id7 ≡ false

@@ -1,3 +1,4 @@
 pub mod Laws
 pub mod Windows
 pub mod Signs
+pub mod Raised

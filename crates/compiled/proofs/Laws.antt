@@ -2,25 +2,27 @@
 use Prim.Native.Nat.{ℕ, zero, suc, _+_, _-_, _*_, _^_, _≤_, _<_}
 use mathlib.Core.Path.{_≡_, refl, sym, ap, _∙_}
 use mathlib.Core.Bool.{Bool, true, false, cond}
-use mathlib.Core.List.{List, [], _++_}
+use mathlib.Core.List.{List, [], _∷_, _++_}
 use mathlib.Core.Logic.{_⊎_, inl, inr, ⊎-elim}
 use native.Mathlib.Omega.{arith}
 use native.Mathlib.Decide.{decLt}
 use borrow.Author.Count.{below-more}
-use borrow.Author.Tests.{le-leb, lt-ltb, eq-eqb, eqb-true, eqb-false}
-use lib.Dec.{eqb}
+use borrow.Author.Tests.{ltb-true, le-leb, lt-ltb, eq-eqb, eqb-true, eqb-false}
+use lib.Dec.{ltb, eqb}
 use lib.ListN.{length, getD, set, take, drop, length-set, List·getD-append, List·getD-eq-default}
 use lib.Pow.{pow-mono}
 use lib.Seq.{length-take-le, getD-take, getD-drop, getD-append-add, getD-set-same, getD-set-other, drop-drop}
+use Rattle.wire.specs.Numbers.{numberAt}
 use Rattle.bits.specs.Bits.{lowBits}
 use Rattle.bits.specs.InnerWindow.{turned}
 use Rattle.bits.proofs.Laws.{length-lowBits, small-lowBits, number-small}
 use Rattle.tables.specs.declared.Structure.{Structure}
-use Rattle.tables.specs.Structures.{noStructure, remainderOf, modeRight, structureRight, every}
+use Rattle.tables.specs.Structures.{noStructure, structureAt, structuresAt, remainderOf, modeRight, structureRight, every}
+use Rattle.tables.specs.Default.{defaultTable, twoValues, valued}
 use Rattle.tables.specs.Section2.{isDefault, tableAt, afterTable, tablesFrom, tableRight, section2Right}
 use Rattle.tables.proofs.Laws.{Fine, fine, RightTable, table-right, RightTables, section2-right, every-at, tables-cons}
 use Rattle.compiled.specs.declared.Form.{Form}
-use Rattle.compiled.specs.InnerForm.{lowest, beyond, formOf, formAt, numbersOf, Says, Beside, Ready}
+use Rattle.compiled.specs.InnerForm.{lowest, beyond, formOf, formAt, numbersOf, Says, Beside, TwoBytes, Ready, Holding}
 
 -- ---- the numbers w are put into a list from place a on
 
@@ -189,16 +191,53 @@ tables-turn n tables tab after t right l before put =
     (λ u h. says-same (getD tables u []) tab after u (most u h) (before u h) (λ i p q. put .1 i (inl (omega arith))))
     (put .0)
 
+-- ---- base values of two bytes
+
+-- those of the default table
+default-small : (k : ℕ) → getD defaultTable k noStructure .base < 65536
+unfolding every defaultTable twoValues valued
+default-small k = go (decLt k (length defaultTable))
+  where
+    go : Dec (k < length defaultTable) → getD defaultTable k noStructure .base < 65536
+    go (yes l) =
+        ltb-true (getD defaultTable k noStructure .base) 65536
+        (every-at (λ (c : Structure). ltb (c .base) 65536) noStructure defaultTable refl k l)
+    go (no l) = rw (List·getD-eq-default defaultTable noStructure {n = k} (omega arith)) (omega arith)
+
+-- those of the default table alone
+pub default-two : TwoBytes (defaultTable ∷ [])
+default-two zero k = default-small k
+default-two (suc t) k = omega arith
+
+module _ (s : List ℕ) (bytes : (i : ℕ) → getD s i 0 < 256) where
+  -- those of structures in bytes
+  structures-small : (o n k : ℕ) → getD (structuresAt s o n) k noStructure .base < 65536
+  unfolding structuresAt structureAt numberAt
+  structures-small o zero k = omega arith
+  structures-small o (suc n) zero = omega (arith, bytes (o + 3), bytes (o + 3 + 1))
+  structures-small o (suc n) (suc k) = structures-small (o + 9) n k
+
+  -- those of tables in bytes
+  pub tables-two : (o n : ℕ) → TwoBytes (tablesFrom s o n)
+  unfolding tablesFrom tableAt
+  tables-two o zero t k = omega arith
+  tables-two o (suc n) zero k = structures-small (o + 2) (numberAt 2 s o) k
+  tables-two o (suc n) (suc t) k = tables-two (afterTable s o) n t k
+
+-- ---- all tables are put
+
 -- n tables are there, and behind them there is none
-pub ready : (tables : List (List Structure)) (n : ℕ) (tab after : List ℕ) → length tables ≡ n → n ≤ 8
-    → every (tableRight n) tables ≡ true → length after ≡ 3080
+pub ready : (tables : List (List Structure)) (n : ℕ) (tab after : List ℕ) → length tables ≡ n → 1 ≤ n → n ≤ 8
+    → every (tableRight n) tables ≡ true → TwoBytes tables → length after ≡ 3080
     → ((t : ℕ) → t < n → Says (getD tables t []) tab t)
     → ((t : ℕ) → n ≤ t → t < 8 → Says [] after t) × ((i : ℕ) → i < n * 385 → getD after i 0 ≡ getD tab i 0)
     → Ready tables after
-ready tables n tab after e most right room says none = record {
+ready tables n tab after e some most right two room says none = record {
   room = room;
+  some = omega arith;
   most = omega arith;
   right = rw e right;
+  twoBytes = two;
   says = λ t h. go t h (decLt t n);
 }
   where
@@ -292,6 +331,11 @@ right-more m n c h right =
     (mode-more m n c h f)
 
 -- ---- what is read of tables that are ready
+
+-- numbers that there are say the tables that they hold
+pub held-ready : (tables : List (List Structure)) (tab : List ℕ) → Holding tables tab → (length tab ≡ 0 → ⊥) → Ready tables tab
+held-ready tables tab (inl ready) h = ready
+held-ready tables tab (inr empty) h = absurd (h (ap length (empty .1)))
 
 module _ {tables : List (List Structure)} {tab : List ℕ} (held : Ready tables tab) (t : ℕ) (h : t < 8) where
   -- table t has as many structures as its count says

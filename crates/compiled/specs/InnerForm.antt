@@ -2,7 +2,7 @@
 -- and searching both run on this form, which is made once for a lead. No public contract rests on this.
 use Prim.Native.Nat.{ℕ, zero, suc, _+_, _-_, _*_, _%_, _^_, _≤_, _<_}
 use mathlib.Core.Path.{_≡_}
-use mathlib.Core.Bool.{Bool, true, cond}
+use mathlib.Core.Bool.{true, cond}
 use mathlib.Core.List.{List, [], _∷_}
 use mathlib.Core.Logic.{_⊎_}
 use lib.Dec.{eqb}
@@ -58,13 +58,27 @@ pub record Says (cs : List Structure) (tab : List ℕ) (t : ℕ) : Type 0 where
 abbrev pub Beside : List ℕ → List ℕ → ℕ → Type 0
 Beside before after t = (i : ℕ) → (i < t * 385) ⊎ (t * 385 + 385 ≤ i) → getD after i 0 ≡ getD before i 0
 
+-- the base values of tables have two bytes, as those of Section 2's data have
+abbrev pub TwoBytes : List (List Structure) → Type 0
+TwoBytes tables = (t k : ℕ) → getD (getD tables t []) k noStructure .base < 65536
+
 -- tables that were judged to be right, and the numbers that say them; a table that is not there has no structure
 pub record Ready (tables : List (List Structure)) (tab : List ℕ) : Type 0 where
   pub room : length tab ≡ 3080
+  pub some : 1 ≤ length tables
   pub most : length tables ≤ 8
   pub right : every (tableRight (length tables)) tables ≡ true
+  pub twoBytes : TwoBytes tables
   pub says : (t : ℕ) → t < 8 → Says (getD tables t []) tab t
 
 -- the numbers say some tables that were judged to be right
+abbrev pub Filled : List ℕ → Type 0
+Filled tab = (tables : List (List Structure)) × Ready tables tab
+
+-- the numbers hold the tables: they say them; or, with no Section 2, there are no tables and no numbers
+abbrev pub Holding : List (List Structure) → List ℕ → Type 0
+Holding tables tab = Ready tables tab ⊎ ((tables ≡ []) × (tab ≡ []))
+
+-- the numbers hold some tables, or none
 abbrev pub Held : List ℕ → Type 0
-Held tab = (tables : List (List Structure)) × Ready tables tab
+Held tab = (tables : List (List Structure)) × Holding tables tab

@@ -17,7 +17,7 @@ fiducialOf s = numberAt 2 s 18
 abbrev pub zoneCount : List ℕ → ℕ
 zoneCount s = numberAt 2 s 20
 
--- then 14 bytes each: type (2), SB (4), fiducial C (4), SE (4)
+-- then 14 bytes each: type (2), SB (4), fiducial C (4), SE (4); each such entry is called a zone here, of whatever type
 abbrev pub zoneType : List ℕ → ℕ → ℕ
 zoneType s k = numberAt 2 s (22 + 14 * k)
 
@@ -34,7 +34,7 @@ zoneEnd s k = numberAt 4 s (32 + 14 * k)
 unfoldable pub beatSamples : ℕ → ℕ → ℕ
 beatSamples ms interval = 1000 * ms / interval
 
--- the last sample of the zones of type 0 before the k-th; 0 where there is none
+-- SE of the nearest zone of type 0 before the k-th, which is the last of all where those keep their rule; 0 where there is none
 unfoldable pub lastBefore : List ℕ → ℕ → ℕ
 lastBefore s zero = 0
 lastBefore s (suc k) = cond (eqb (zoneType s k) 0) (zoneEnd s k) (lastBefore s k)

@@ -2,6 +2,7 @@
 // section with its header. Every byte string is answered.
 ghost use mathlib.Core.Path.{_≡_};
 ghost use Prim.Native.Nat.{_+_, _*_, _<_, _≤_};
+ghost use lib.ListN.{length};
 ghost use Rattle.wire.specs.Rules.{allIn};
 ghost use Rattle.entries.specs.Leads.{firstSample, lastSample, sampleCount, leadRight, section3Right};
 ghost use Rattle.entries.specs.Streams.{streamBytes, bytesBefore, streamStart, streamOf, streamsRight, section6Right};
@@ -119,7 +120,7 @@ pub fn stream_start(s: &[u8], n: usize, k: usize) -> usize
 // The stream of lead k: that part of the section itself.
 pub fn stream_of<'a>(s: &'a [u8], n: usize, k: usize) -> &'a [u8]
     requires { ⌜ (n < 256) × (k < n) ⌝ }
-    ensures { λ r. ⌜ now r ≡ streamOf n (now (s .entry)) k ⌝ }
+    ensures { λ r. ⌜ (now r ≡ streamOf n (now (s .entry)) k) × (length (now r) < 65536) ⌝ }
 {
     let start = stream_start(s, n, k);
     let end = start + stream_bytes(s, k);

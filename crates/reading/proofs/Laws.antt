@@ -3,30 +3,30 @@ use Prim.Native.Nat.{ℕ, zero, suc, _+_, _-_, _*_, _/_, _%_, _^_, _≤_, _<_}
 use mathlib.Core.Path.{_≡_, refl, sym, ap, _∙_}
 use mathlib.Core.Bool.{Bool, true, false, cond}
 use mathlib.Core.List.{List, [], _∷_}
+use mathlib.Core.Logic.{_⊎_, inl, inr}
 use mathlib.Core.Option.{Option, none, some}
 use native.Mathlib.Nat.{mod-lt, pow-suc}
 use native.Mathlib.Decide.{decLt}
 use native.Mathlib.Omega.{arith}
-use borrow.Author.Tests.{ltb-true, lt-ltb, le-ltb, le-leb, lt-leb, eq-eqb, ne-eqb, eqb-true}
-use lib.Dec.{leb, ltb, eqb}
+use borrow.Author.Tests.{lt-ltb, le-ltb, le-leb, lt-leb, eq-eqb, ne-eqb, eqb-true}
+use lib.Dec.{leb, eqb}
 use lib.IntN.{negsuc}
 use lib.ListN.{length, getD, take, drop, length-append, length-drop, drop-of-length-le, List·getD-eq-default}
 use lib.Pow.{pow-pos, pow-mono, shr-lt}
 use lib.Seq.{drop-cons, drop-drop}
-use Rattle.wire.specs.Numbers.{numberAt}
 use Rattle.bits.specs.Bits.{lowBits, numberOf, signed, begins, bitsIn}
+use Rattle.bits.specs.InnerRaised.{lower}
 use Rattle.bits.specs.InnerWindow.{Window}
 use Rattle.bits.proofs.Laws.{length-lowBits, length-bitsIn, small-drop, small-bitsIn, begins-split}
 use Rattle.tables.specs.declared.Structure.{Structure}
-use Rattle.tables.specs.Structures.{noStructure, prefixOf, remainderOf, structureAt, structuresAt, structureRight, every}
-use Rattle.tables.specs.Default.{defaultTable, twoValues, valued}
-use Rattle.tables.specs.Section2.{tableCount, isDefault, tableAt, afterTable, tablesFrom, tablesIn, tableOf, tableRight}
+use Rattle.tables.specs.Structures.{noStructure, prefixOf, remainderOf, structureRight, every}
+use Rattle.tables.specs.Section2.{tableOf, tableRight}
 use Rattle.tables.proofs.Laws.{fine, RightTable, table-right, every-at}
 use Rattle.compiled.specs.declared.Form.{Form}
-use Rattle.compiled.specs.InnerForm.{lowest, formOf, Ready}
+use Rattle.compiled.specs.InnerForm.{lowest, formOf, Ready, Holding}
 use Rattle.compiled.proofs.Laws.{FineForm, form-fine, held-right}
-use Rattle.reading.specs.Reading.{Next, gave, stuck, matching, valueOf, afterMatch, readWithin, readCoded}
-use Rattle.reading.specs.InnerCursor.{lowered, Seen, TwoBytes, formed, Behind, Onward, OnwardOf}
+use Rattle.reading.specs.Reading.{Next, gave, stuck, matching, valueOf, afterMatch, readWithin, readCoded, readPlain, readNext}
+use Rattle.reading.specs.InnerCursor.{Seen, formed, Onward, OnwardOf}
 use Rattle.reading.specs.declared.Read.{Read}
 use Rattle.reading.specs.declared.Read.the-variants.{Value, Stuck}
 use Rattle.reading.specs.declared.Burst.{Burst}
@@ -35,31 +35,31 @@ use Rattle.reading.specs.declared.Burst.the-variants.{Ended, More}
 -- ---- two's complement, 131,072 added
 
 -- a number of the lower half
-pub lowered-low : (w n : ℕ) → n < 2 ^ w → lowered (131072 + n) ≡ signed (suc w) n
-unfolding lowered signed
-lowered-low w n h =
+pub lower-low : (w n : ℕ) → n < 2 ^ w → lower 131072 (131072 + n) ≡ signed (suc w) n
+unfolding lower signed
+lower-low w n h =
     let e : suc w - 1 ≡ w = omega arith in
     let back : 131072 + n - 131072 ≡ n = omega arith in
     simp (e, lt-ltb n (2 ^ w) h, le-ltb (131072 + n) 131072 (omega arith), back)
 
 -- a number of the upper half
-pub lowered-high : (w n : ℕ) → 2 ^ w ≤ n → n < 2 * 2 ^ w → 2 ^ w ≤ 65536 → lowered (131072 + n - 2 * 2 ^ w) ≡ signed (suc w) n
-unfolding lowered signed
-lowered-high w n h g l =
+pub lower-high : (w n : ℕ) → 2 ^ w ≤ n → n < 2 * 2 ^ w → 2 ^ w ≤ 65536 → lower 131072 (131072 + n - 2 * 2 ^ w) ≡ signed (suc w) n
+unfolding lower signed
+lower-high w n h g l =
     let e : suc w - 1 ≡ w = omega arith in
     let x = 131072 + n - 2 * 2 ^ w in
-    let back : 131071 - x ≡ 2 ^ suc w - suc n = rw (pow-suc 2 w) (omega arith) in
+    let back : 131072 - suc x ≡ 2 ^ suc w - suc n = rw (pow-suc 2 w) (omega arith) in
     simp (e, le-ltb n (2 ^ w) h, lt-ltb x 131072 (omega arith)) (ap negsuc back)
 
 -- a base value
-pub lowered-base : (base : ℕ) → base < 65536 → lowered (lowest base 0) ≡ signed 16 base
-lowered-base base h = go (decLt base 32768)
+pub lower-base : (base : ℕ) → base < 65536 → lower 131072 (lowest base 0) ≡ signed 16 base
+lower-base base h = go (decLt base 32768)
   where
-    go : Dec (base < 32768) → lowered (lowest base 0) ≡ signed 16 base
-    go (yes l) = let e : lowest base 0 ≡ 131072 + base = omega arith in rw e (lowered-low 15 base l)
+    go : Dec (base < 32768) → lower 131072 (lowest base 0) ≡ signed 16 base
+    go (yes l) = let e : lowest base 0 ≡ 131072 + base = omega arith in rw e (lower-low 15 base l)
     go (no l) =
         let e : lowest base 0 ≡ 131072 + base - 2 * 2 ^ 15 = omega arith in
-        rw e (lowered-high 15 base (omega arith) (omega arith) (omega arith))
+        rw e (lower-high 15 base (omega arith) (omega arith) (omega arith))
 
 -- the highest q bits of 64 are a number below 2 ^ q
 pub high-small : (x q : ℕ) → q ≤ 64 → x % 2 ^ 64 / 2 ^ (64 - q) < 2 ^ q
@@ -291,6 +291,7 @@ pub record FoundForm (tables : List (List Structure)) (table : ℕ) (bs : List �
   pub match : matching (tableOf tables table) bs ≡ some structure
   pub form : formOf structure ≡ f
   pub right : structureRight 8 structure ≡ true
+  pub small : structure .base < 65536
   pub fine : FineForm f
   pub long : f .prefix ≤ length bs
 
@@ -310,6 +311,7 @@ found-form {tables} ready table h g bs f found =
       match = rw (table-at tables table h) (d .1);
       form = d .2;
       right = right;
+      small = rw (m .stands) at (ready .twoBytes t (m .place));
       fine = rw (← d .2) (form-fine 8 (d .0) (omega arith) right);
       long = rw (← d .2) (m .long);
     }
@@ -339,57 +341,48 @@ pub found-none : (tables : List (List Structure)) (table : ℕ) (bs : List ℕ) 
     → none ≡ formed (matching (getD tables (table - 1) []) bs) → matching (tableOf tables table) bs ≡ none
 found-none tables table bs h found = rw (table-at tables table h) (none-formed (matching (getD tables (table - 1) []) bs) found)
 
--- the base value of a matched structure has two bytes
-pub matched-base : (tables : List (List Structure)) → TwoBytes tables → (table : ℕ) (bs : List ℕ) (c : Structure)
-    → matching (tableOf tables table) bs ≡ some c → c .base < 65536
-unfolding tableOf
-matched-base tables two zero bs c h = let m = matched [] bs c h in absurd (omega (arith, m .there))
-matched-base tables two (suc t) bs c h = let m = matched (getD tables t []) bs c h in rw (m .stands) at (two t (m .place))
+-- ---- the next value of a stream
 
--- ---- the base values of Section 2's data
-
--- those of the default table
-default-small : TwoBytes (defaultTable ∷ [])
-unfolding every defaultTable twoValues valued
-default-small zero k = go (decLt k (length defaultTable))
+-- past the end of the bits there is none
+pub next-past : (tables : List (List Structure)) (table at : ℕ) (s : List ℕ) → length s * 8 < at
+    → readNext tables table (drop at (bitsIn s)) ≡ stuck
+unfolding readNext readPlain readCoded readWithin
+next-past tables table at s h =
+    let past : length (bitsIn s) ≤ at = omega (arith, length-bitsIn s) in
+    rw (drop-of-length-le (bitsIn s) past) (go tables)
   where
-    go : Dec (k < length defaultTable) → getD defaultTable k noStructure .base < 65536
-    go (yes l) =
-        ltb-true (getD defaultTable k noStructure .base) 65536
-        (every-at (λ (c : Structure). ltb (c .base) 65536) noStructure defaultTable refl k l)
-    go (no l) = rw (List·getD-eq-default defaultTable noStructure {n = k} (omega arith)) (omega arith)
-default-small (suc t) k = omega arith
+    go : (l : List (List Structure)) → readNext l table [] ≡ stuck
+    go [] = refl
+    go (t ∷ ts) = refl
 
-module _ (s : List ℕ) (bytes : (i : ℕ) → getD s i 0 < 256) where
-  -- those of structures
-  structures-small : (o n k : ℕ) → getD (structuresAt s o n) k noStructure .base < 65536
-  unfolding structuresAt structureAt numberAt
-  structures-small o zero k = omega arith
-  structures-small o (suc n) zero = omega (arith, bytes (o + 3), bytes (o + 3 + 1))
-  structures-small o (suc n) (suc k) = structures-small (o + 9) n k
+-- no numbers hold no tables, so that a value is two bytes
+pub next-plain : (tables : List (List Structure)) (tab : List ℕ) → Holding tables tab → length tab ≡ 0
+    → (table : ℕ) (bs : List ℕ) → readNext tables table bs ≡ readPlain table bs
+unfolding readNext
+next-plain tables tab (inl ready) e table bs = absurd (omega (arith, ready .room))
+next-plain tables tab (inr empty) e table bs = rw (empty .0)
 
-  -- those of tables
-  tables-small : (o n : ℕ) → TwoBytes (tablesFrom s o n)
-  unfolding tablesFrom tableAt
-  tables-small o zero t k = omega arith
-  tables-small o (suc n) zero k = structures-small (o + 2) (numberAt 2 s o) k
-  tables-small o (suc n) (suc t) k = tables-small (afterTable s o) n t k
-
-  -- the tables that data of bytes mean have base values of two bytes
-  pub two-bytes : (at : ℕ) → TwoBytes (tablesIn s at)
-  unfolding tablesIn
-  two-bytes at t k = go (isDefault s at)
+module _ {tables : List (List Structure)} {tab : List ℕ} (ready : Ready tables tab) (table : ℕ) (bs : List ℕ) where
+  -- tables that are ready are those that a value is read by
+  pub next-coded : readNext tables table bs ≡ readCoded tables table bs
+  unfolding readNext
+  next-coded = go tables (ready .some)
     where
-      go : (b : Bool) → getD (getD (cond b (defaultTable ∷ []) (tablesFrom s (at + 2) (tableCount s at))) t []) k noStructure .base < 65536
-      go true = default-small t k
-      go false = tables-small (at + 2) (tableCount s at) t k
+      go : (l : List (List Structure)) → 1 ≤ length l → readNext l table bs ≡ readCoded l table bs
+      go [] h = absurd (omega arith)
+      go (t ∷ ts) h = refl
+
+  -- but not in a table that is not there
+  pub next-outside : (table < 1) ⊎ (8 < table) → readNext tables table bs ≡ stuck
+  unfolding tableOf matching
+  next-outside h = next-coded ∙ read-none (length tables) tables (ready .right) table bs (go table h)
+    where
+      go : (n : ℕ) → (n < 1) ⊎ (8 < n) → matching (tableOf tables n) bs ≡ none
+      go zero h = refl
+      go (suc n) (inl h) = absurd (omega arith)
+      go (suc n) (inr h) = rw (List·getD-eq-default tables [] {n = n} (omega (arith, ready .most)))
 
 -- ---- cursors that are further on
-
--- a cursor behind a code of the bits that are left is within them
-pub behind-onward : (at n table : ℕ) → at ≤ n → 1 ≤ table → table ≤ 8 → (r : Read) → Behind at (n - at) table r → Onward at n r
-behind-onward at n table h g l (Value x c) b = omega arith
-behind-onward at n table h g l Stuck b = tt
 
 -- what is further on than a place is further on than one before
 pub onward-from : (a b n : ℕ) → a ≤ b → (r : Read) → Onward b n r → Onward a n r

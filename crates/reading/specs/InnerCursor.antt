@@ -1,15 +1,12 @@
 -- What the bit cursor and its methods say, of the reading rule. No public contract rests on this.
-use Prim.Native.Nat.{ℕ, zero, suc, _+_, _-_, _*_, _≤_, _<_}
+use Prim.Native.Nat.{ℕ, _+_, _≤_, _<_}
 use mathlib.Core.Path.{_≡_}
-use mathlib.Core.Bool.{cond}
-use mathlib.Core.List.{List, []}
+use mathlib.Core.List.{List}
 use mathlib.Core.Option.{Option, none, some}
-use lib.IntN.{ℤ, pos, negsuc}
-use lib.Dec.{ltb}
 use lib.ListN.{length, getD, drop}
+use Rattle.bits.specs.InnerRaised.{lower}
 use Rattle.bits.specs.InnerWindow.{Window}
 use Rattle.tables.specs.declared.Structure.{Structure}
-use Rattle.tables.specs.Structures.{noStructure}
 use Rattle.compiled.specs.declared.Form.{Form}
 use Rattle.compiled.specs.InnerForm.{formOf}
 use Rattle.reading.specs.Reading.{Next, gave, stuck, readCoded}
@@ -21,19 +18,11 @@ use Rattle.reading.specs.declared.Read.the-variants.{Value, Stuck}
 use Rattle.reading.specs.declared.Burst.{Burst}
 use Rattle.reading.specs.declared.Burst.the-variants.{Ended, More}
 
--- the whole number of which x is 131,072 more: the engines hold values so, without a sign
-unfoldable pub lowered : ℕ → ℤ
-lowered x = cond (ltb x 131072) (negsuc (131071 - x)) (pos (x - 131072))
-
 -- the bits bs, of which so many are left, are seen through a window
 pub record Seen (bs : List ℕ) (w left : ℕ) : Type 0 where
   pub window : Window bs w
   pub small : (i : ℕ) → getD bs i 0 < 2
   pub count : length bs ≡ left
-
--- the base values of tables have two bytes, as those of Section 2's data have
-abbrev pub TwoBytes : List (List Structure) → Type 0
-TwoBytes tables = (t k : ℕ) → getD (getD tables t []) k noStructure .base < 65536
 
 -- what a search found, and the form of what a table has
 abbrev pub foundIn : Found → Option Form
@@ -44,9 +33,9 @@ abbrev pub formed : Option Structure → Option Form
 formed none = none
 formed (some c) = some (formOf c)
 
--- an answer, of a stream of the bits bs
+-- an answer, of a stream of the bits bs; the engines hold values with 131,072 added
 abbrev pub told : List ℕ → Read → Next
-told bs (Value x c) = gave (lowered x) (c .table) (drop (c .at) bs)
+told bs (Value x c) = gave (lower 131072 x) (c .table) (drop (c .at) bs)
 told bs Stuck = stuck
 
 -- a burst ended with an answer, or reading goes on from its cursor
@@ -62,16 +51,12 @@ Within n c = (c .at ≤ n) × (1 ≤ c .table) × (c .table ≤ 8)
 abbrev pub Leads : ℕ → ℕ → Form → Type 0
 Leads at n f = (1 ≤ f .prefix) × (at + f .prefix ≤ n) × (1 ≤ f .to) × (f .to ≤ 8)
 
--- a value's cursor is behind its code, of which so many bits are there, in the same table
-abbrev pub Behind : ℕ → ℕ → ℕ → Read → Type 0
-Behind at left table (Value x c) = (at < c .at) × (c .at ≤ at + left) × (c .table ≡ table) × (x < 262144)
-Behind at left table Stuck = Unit {0}
-
--- an answer's cursor is further on than a place, and within n bits; so is that of a burst that did not end
+-- an answer's cursor is further on than a place, and within n bits
 abbrev pub Onward : ℕ → ℕ → Read → Type 0
-Onward at n (Value x c) = (at < c .at) × Within n c × (x < 262144)
+Onward at n (Value x c) = (at < c .at) × (c .at ≤ n) × (x < 262144)
 Onward at n Stuck = Unit {0}
 
+-- so is that of a burst that did not end, at one of eight tables
 abbrev pub OnwardOf : ℕ → ℕ → Burst → Type 0
 OnwardOf at n (Ended r) = Onward at n r
 OnwardOf at n (More c) = (at < c .at) × Within n c

@@ -7,11 +7,12 @@ ghost use mathlib.Core.List.{List, []};
 ghost use Prim.Native.Nat.{ℕ, suc, _+_, _*_, _^_, _<_, _≤_};
 ghost use lib.ListN.{length, getD, drop};
 ghost use Rattle.bits.specs.Bits.{bitsIn, signed, begins};
+ghost use Rattle.bits.specs.InnerRaised.{lower};
 ghost use Rattle.tables.specs.declared.Structure.{Structure};
 ghost use Rattle.tables.specs.Structures.{prefixOf, remainderOf, structureRight};
-ghost use Rattle.compiled.specs.InnerForm.{formOf, Ready, Held};
-ghost use Rattle.reading.specs.Reading.{readCoded, readPlain, matching, valueOf};
-ghost use Rattle.reading.specs.InnerCursor.{lowered, Seen, foundIn, formed, TwoBytes, told, toldOf, Within, Leads, Behind, Onward, OnwardOf};
+ghost use Rattle.compiled.specs.InnerForm.{formOf, Ready, Filled, Holding, Held};
+ghost use Rattle.reading.specs.Reading.{readCoded, readPlain, readNext, matching, valueOf};
+ghost use Rattle.reading.specs.InnerCursor.{Seen, foundIn, formed, told, toldOf, Within, Leads, Onward, OnwardOf};
 use compiled::Form;
 
 // A place in a stream of bits, and the number of the current table.
@@ -52,7 +53,7 @@ fn begins_with(f: Form, w: u64, left: usize) -> bool
 
 // The form of the structure of table t, counted from 0, whose prefix the window begins with.
 fn find(tab: &[u32], t: usize, w: u64, left: usize) -> Found
-    requires { ⌜ Held (now tab) × (t < 8) ⌝ }
+    requires { ⌜ Filled (now tab) × (t < 8) ⌝ }
     ensures { λ r. ⌜ ((tables : List (List Structure)) (bs : List ℕ) → Ready tables (now (tab .entry)) → Seen bs w left → foundIn r ≡ formed (matching (getD tables t []) bs)) ⌝ }
 {
     let n = tab[t * 385] as usize;
@@ -70,7 +71,7 @@ fn find(tab: &[u32], t: usize, w: u64, left: usize) -> Found
 // A number in two's complement of one bit more than `half` has noughts, 131,072 added.
 fn raised(n: usize, half: usize) -> usize
     requires { ⌜ (1 ≤ half) × (half ≤ 32768) × (n < 2 * half) ⌝ }
-    ensures { λ r. ⌜ ((w : ℕ) → half ≡ 2 ^ w → lowered r ≡ signed (suc w) n) × (r < 262144) ⌝ }
+    ensures { λ r. ⌜ ((w : ℕ) → half ≡ 2 ^ w → lower 131072 r ≡ signed (suc w) n) × (r < 262144) ⌝ }
 {
     if n < half {
         return 131072 + n;
@@ -82,7 +83,7 @@ fn raised(n: usize, half: usize) -> usize
 fn value_of(f: Form, w: u64, left: usize, c: Cursor) -> Read
     requires { ⌜ ((d : Structure) × (formOf d ≡ f) × (structureRight 8 d ≡ true) × (f .to ≡ 0)) × (f .prefix ≤ left) × (c .at ≤ 8388608) ⌝ }
     ensures told { λ r. ⌜ ((d : Structure) (bs : List ℕ) → formOf d ≡ f → structureRight 8 d ≡ true → d .base < 65536 → Seen (drop (c .at) bs) w left → told bs r ≡ valueOf (remainderOf d) (d .base) (c .table) (drop (d .prefix) (drop (c .at) bs))) ⌝ }
-    ensures onward { λ r. ⌜ Behind (c .at) left (c .table) r ⌝ }
+    ensures onward { λ r. ⌜ Onward (c .at) (c .at + left) r ⌝ }
 {
     let at = c.at;
     let table = c.table;
@@ -114,8 +115,8 @@ impl Cursor {
 
     // A code is matched in the current table: a value ends the step, a switch is followed.
     fn burst(self, s: &[u8], tab: &[u32], depth: usize) -> Burst
-        requires { ⌜ Held (now tab) × (length (now s) ≤ 1048576) × Within (length (now s) * 8) self ⌝ }
-        ensures told { λ r. ⌜ ((tables : List (List Structure)) → Ready tables (now (tab .entry)) → TwoBytes tables → toldOf tables (bitsIn (now (s .entry))) r ≡ readCoded tables (self .table) (drop (self .at) (bitsIn (now (s .entry))))) ⌝ }
+        requires { ⌜ Filled (now tab) × (length (now s) ≤ 1048576) × Within (length (now s) * 8) self ⌝ }
+        ensures told { λ r. ⌜ ((tables : List (List Structure)) → Ready tables (now (tab .entry)) → toldOf tables (bitsIn (now (s .entry))) r ≡ readCoded tables (self .table) (drop (self .at) (bitsIn (now (s .entry))))) ⌝ }
         ensures onward { λ r. ⌜ OnwardOf (self .at) (length (now (s .entry)) * 8) r ⌝ }
     {
         let at = self.at;
@@ -135,8 +136,8 @@ impl Cursor {
 
     // A switch gives no value: reading carries on in the table that it leads to, or hands back the cursor where the depth is used up.
     fn follow(self, s: &[u8], tab: &[u32], depth: usize, f: Form) -> Burst
-        requires { ⌜ Held (now tab) × (length (now s) ≤ 1048576) × Within (length (now s) * 8) self × Leads (self .at) (length (now s) * 8) f ⌝ }
-        ensures told { λ r. ⌜ ((tables : List (List Structure)) → Ready tables (now (tab .entry)) → TwoBytes tables → toldOf tables (bitsIn (now (s .entry))) r ≡ readCoded tables (f .to) (drop (self .at + f .prefix) (bitsIn (now (s .entry))))) ⌝ }
+        requires { ⌜ Filled (now tab) × (length (now s) ≤ 1048576) × Within (length (now s) * 8) self × Leads (self .at) (length (now s) * 8) f ⌝ }
+        ensures told { λ r. ⌜ ((tables : List (List Structure)) → Ready tables (now (tab .entry)) → toldOf tables (bitsIn (now (s .entry))) r ≡ readCoded tables (f .to) (drop (self .at + f .prefix) (bitsIn (now (s .entry))))) ⌝ }
         ensures onward { λ r. ⌜ OnwardOf (self .at) (length (now (s .entry)) * 8) r ⌝ }
     {
         let at = self.at;
@@ -150,9 +151,9 @@ impl Cursor {
     }
 
     // The next value of a stream that is coded by tables.
-    pub fn coded(self, s: &[u8], tab: &[u32]) -> Read
-        requires { ⌜ Held (now tab) × (length (now s) ≤ 1048576) × Within (length (now s) * 8) self ⌝ }
-        ensures told { λ r. ⌜ ((tables : List (List Structure)) → Ready tables (now (tab .entry)) → TwoBytes tables → told (bitsIn (now (s .entry))) r ≡ readCoded tables (self .table) (drop (self .at) (bitsIn (now (s .entry))))) ⌝ }
+    fn coded(self, s: &[u8], tab: &[u32]) -> Read
+        requires { ⌜ Filled (now tab) × (length (now s) ≤ 1048576) × Within (length (now s) * 8) self ⌝ }
+        ensures told { λ r. ⌜ ((tables : List (List Structure)) → Ready tables (now (tab .entry)) → told (bitsIn (now (s .entry))) r ≡ readCoded tables (self .table) (drop (self .at) (bitsIn (now (s .entry))))) ⌝ }
         ensures onward { λ r. ⌜ Onward (self .at) (length (now (s .entry)) * 8) r ⌝ }
     {
         let mut c = self;
@@ -169,8 +170,8 @@ impl Cursor {
     }
 
     // The next value of a stream without tables: two signed bytes.
-    pub fn plain(self, s: &[u8]) -> Read
-        requires { ⌜ (length (now s) ≤ 1048576) × Within (length (now s) * 8) self ⌝ }
+    fn plain(self, s: &[u8]) -> Read
+        requires { ⌜ (length (now s) ≤ 1048576) × (self .at ≤ length (now s) * 8) ⌝ }
         ensures told { λ r. ⌜ told (bitsIn (now (s .entry))) r ≡ readPlain (self .table) (drop (self .at) (bitsIn (now (s .entry)))) ⌝ }
         ensures onward { λ r. ⌜ Onward (self .at) (length (now (s .entry)) * 8) r ⌝ }
     {
@@ -182,5 +183,28 @@ impl Cursor {
         let w = bits::window(s, at);
         let n = bits::top(w, 8) as usize + bits::after(w, 8, 8) as usize * 256;
         Read::Value(raised(n, 32768), Cursor { at: at + 16, table })
+    }
+
+    // The next value of a stream: by the tables held, or, where none are (no Section 2), in two signed bytes.
+    pub fn value(self, s: &[u8], tab: &[u32]) -> Read
+        requires { ⌜ Held (now tab) × (length (now s) ≤ 1048576) ⌝ }
+        ensures told { λ r. ⌜ ((tables : List (List Structure)) → Holding tables (now (tab .entry)) → told (bitsIn (now (s .entry))) r ≡ readNext tables (self .table) (drop (self .at) (bitsIn (now (s .entry))))) ⌝ }
+        ensures onward { λ r. ⌜ Onward (self .at) (length (now (s .entry)) * 8) r ⌝ }
+    {
+        let at = self.at;
+        let table = self.table;
+        if s.len() * 8 < at {
+            return Read::Stuck;
+        }
+        if tab.len() == 0 {
+            return self.plain(s);
+        }
+        if table < 1 {
+            return Read::Stuck;
+        }
+        if 8 < table {
+            return Read::Stuck;
+        }
+        self.coded(s, tab)
     }
 }

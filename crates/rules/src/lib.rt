@@ -5,6 +5,7 @@ ghost use Prim.Native.Nat.{_<_, _≤_};
 ghost use Rattle.wire.specs.Numbers.{numberAt};
 ghost use Rattle.pointers.specs.Pointers.{sectionOf};
 ghost use Rattle.entries.specs.Streams.{intervalOf};
+ghost use Rattle.rules.specs.Breaks.{keeps};
 ghost use Rattle.rules.specs.Rules.{tablesRight, leadsOf, hasBeat, beatCount, beatRight, rhythmRight, leadsRight, stepsAgree, agrees, hasLead, leadRefusal};
 
 // 7: Section 2 is absent or keeps its rule.
@@ -175,4 +176,38 @@ pub fn lead_refusal(rec: &[u8], place: usize) -> u8
         return 10;
     }
     0
+}
+
+// The rule of a row from 1 to 9 is kept, asked alone.
+pub fn keeps(rec: &[u8], row: u8) -> bool
+    ensures { λ r. ⌜ r ≡ keeps (now (rec .entry)) row ⌝ }
+{
+    if row == 1 {
+        return record::length_right(rec);
+    }
+    if row == 2 {
+        return record::record_check_right(rec);
+    }
+    if row == 3 {
+        return record::section0_right(rec);
+    }
+    if row == 4 {
+        return record::all_placed_right(rec);
+    }
+    if row == 5 {
+        return record::checks_right(rec);
+    }
+    if row == 6 {
+        return record::fields_right(rec);
+    }
+    if row == 7 {
+        return tables_right(rec);
+    }
+    if row == 8 {
+        return leads_right(rec);
+    }
+    if row == 9 {
+        return is_agreed(rec);
+    }
+    true
 }

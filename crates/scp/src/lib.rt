@@ -1,14 +1,21 @@
 // The C boundary: each call passes on a chapter's call, on numbers and slices, with that call's contract and no `requires`.
 // A refusal is 01's number; with one, every other field is 0 and no lent element is changed.
 ghost use mathlib.Core.Path.{_≡_};
+ghost use mathlib.Core.Bool.{not};
+ghost use lib.ListN.{length};
 ghost use Rattle.wire.specs.Check.{crcOf};
 ghost use Rattle.header.specs.Fields.{stepAt};
 ghost use Rattle.record.specs.Opening.{openRefusal, openCount, openNumbers};
 ghost use Rattle.fields.specs.Lookup.{fieldPlace, walkPlace};
 ghost use Rattle.fields.specs.Identifier.{same};
+ghost use Rattle.rules.specs.Breaks.{keeps};
+ghost use Rattle.leads.specs.Leads.{readTrace};
+ghost use Rattle.leads.specs.Answers.{leadAnswer, outAfter, workAfter, entryAnswer};
 ghost use Rattle.scp.specs.Answers.{partAt, shown, oneIf};
 use fields::Place;
 use header::Step;
+use leads::Entry;
+use leads::Lead;
 
 #[repr(C)]
 pub struct ScpOpened {
@@ -126,4 +133,33 @@ pub extern "C" fn scp_walk_step(section: &[u8], at: usize) -> ScpStep
             next: at,
         },
     }
+}
+
+// Reading the lead at a place, from 1: its samples to the front of the output. The work space is used where a beat was subtracted.
+#[no_mangle]
+pub extern "C" fn scp_read_lead(rec: &[u8], place: usize, out: &mut [i16], work: &mut [i16]) -> Lead
+    ensures answer { λ r. ⌜ r ≡ leadAnswer (now (rec .entry)) place (length (now (out .entry))) (length (now (work .entry))) ⌝ }
+    ensures samples { λ r. ⌜ now (out .exit) ≡ outAfter (readTrace (now (rec .entry)) place (length (now (out .entry))) (length (now (work .entry)))) (now (out .entry)) ⌝ }
+    ensures cleared { λ r. ⌜ now (work .exit) ≡ workAfter (now (rec .entry)) place (length (now (out .entry))) (now (work .entry)) ⌝ }
+{
+    leads::read_lead(rec, place, out, work)
+}
+
+// The entry of the lead at a place, from 1, judged as reading it is; no stream is read.
+#[no_mangle]
+pub extern "C" fn scp_lead(rec: &[u8], place: usize) -> Entry
+    ensures { λ r. ⌜ r ≡ entryAnswer (now (rec .entry)) place ⌝ }
+{
+    leads::lead_entry(rec, place)
+}
+
+// The rule of a row from 1 to 9 is broken, asked alone: 1, else 0.
+#[no_mangle]
+pub extern "C" fn scp_breaks(rec: &[u8], row: u8) -> u8
+    ensures { λ r. ⌜ r ≡ oneIf (not (keeps (now (rec .entry)) row)) ⌝ }
+{
+    if rules::keeps(rec, row) {
+        return 0;
+    }
+    1
 }

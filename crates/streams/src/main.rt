@@ -1,6 +1,6 @@
-// Reads the published streams by the library and writes what they come to, a line each: the values, 12 where reading is stuck, and
-// behind a bar the bits that the values took; or 7 where Section 2 is not right. The last two lines are of the longest lead, 65,535
-// bytes: all switches, and all codes of one bit.
+// Reads the published streams by the library and writes what they come to, a line each: the values, or how many where they are more
+// than 100, 12 where reading is stuck, and behind a bar the bits that the values took; or 7 where Section 2 is not right. The last two
+// lines are of the longest lead, 65,535 bytes: all switches, and all codes of one bit.
 ghost use Prim.Native.Nat.{_≤_};
 ghost use lib.ListN.{length};
 ghost use Rattle.compiled.specs.InnerForm.{Held};
@@ -85,8 +85,11 @@ fn put_number(n: usize) {
     io::print_decimal(STDOUT_FILENO, n as u64);
 }
 
-// A value, of which x is 131,072 more, and a blank.
-fn put_value(x: usize) {
+// One of so many values, 131,072 added, and a blank; of more than 100 none is shown.
+fn put_value(x: usize, count: usize) {
+    if 100 < count {
+        return;
+    }
     if x < 131072 {
         put(b"-");
         put_number(131072 - x);
@@ -96,23 +99,27 @@ fn put_value(x: usize) {
     put(b" ");
 }
 
-// The bits used, and the line's end.
-fn put_end(at: usize) {
+// How many values there are, where none was shown; the bits used, and the line's end.
+fn put_end(count: usize, at: usize) {
+    if 100 < count {
+        put_number(count);
+        put(b" ");
+    }
     put(b"| ");
     put_number(at);
     put(b"\n");
 }
 
-// Values that are coded by tables, so many.
-fn read_coded(stream: &[u8], tab: &[u32], count: usize)
+// So many values of a stream, by the tables held.
+fn put_values(stream: &[u8], tab: &[u32], count: usize)
     requires { ⌜ Held (now tab) × (length (now stream) ≤ 1048576) ⌝ }
 {
     let mut c = Cursor::new();
     let mut left = count;
     while 0 < left {
-        match c.coded(stream, tab) {
+        match c.value(stream, tab) {
             Read::Value(x, d) => {
-                put_value(x);
+                put_value(x, count);
                 c = d;
                 left -= 1;
             }
@@ -122,80 +129,25 @@ fn read_coded(stream: &[u8], tab: &[u32], count: usize)
             }
         }
     }
-    put_end(c.at);
+    put_end(count, c.at);
 }
 
-// Values that are coded by tables, to the last: only how many.
-fn read_to_end(stream: &[u8], tab: &[u32])
-    requires { ⌜ Held (now tab) × (length (now stream) ≤ 1048576) ⌝ }
-{
-    let mut c = Cursor::new();
-    let mut n = 0;
-    loop {
-        match c.coded(stream, tab) {
-            Read::Value(_, d) => {
-                c = d;
-                n += 1;
-            }
-            Read::Stuck => {
-                put_number(n);
-                put(b" ");
-                put_end(c.at);
-                return;
-            }
-        }
-    }
-}
-
-// So many values of a stream, by the tables of Section 2's data.
+// So many values of a stream, by the tables of Section 2's data; without tables where these are empty.
 fn show(section2: &[u8], stream: &[u8], count: usize) {
     if 1048576 < stream.len() {
         return;
     }
-    if !tables::section2_right(section2, 0, 0) {
-        put(b"7\n");
-        return;
-    }
     let mut tab = room();
-    compiled::compile(section2, 0, 0, &mut tab);
-    read_coded(stream, &tab, count);
-}
-
-// How many values a stream has, by the tables of Section 2's data.
-fn count_values(section2: &[u8], stream: &[u8]) {
-    if 1048576 < stream.len() {
+    if section2.len() == 0 {
+        put_values(stream, &tab[..0], count);
         return;
     }
     if !tables::section2_right(section2, 0, 0) {
         put(b"7\n");
         return;
     }
-    let mut tab = room();
     compiled::compile(section2, 0, 0, &mut tab);
-    read_to_end(stream, &tab);
-}
-
-// So many values of a stream without tables.
-fn show_plain(stream: &[u8], count: usize) {
-    if 1048576 < stream.len() {
-        return;
-    }
-    let mut c = Cursor::new();
-    let mut left = count;
-    while 0 < left {
-        match c.plain(stream) {
-            Read::Value(x, d) => {
-                put_value(x);
-                c = d;
-                left -= 1;
-            }
-            Read::Stuck => {
-                put(b"12 ");
-                left = 0;
-            }
-        }
-    }
-    put_end(c.at);
+    put_values(stream, &tab, count);
 }
 
 // The examples, whole.
@@ -222,22 +174,22 @@ fn show_wrong() {
 }
 
 // Two streams without tables, the second with half a value at its end.
-fn show_both_plain() {
-    show_plain(b"\x01\x00\xFF\xFF\x00\x80\xFF\x7F\x34\x12", 5);
-    show_plain(b"\x01\x00\x02", 2);
+fn show_plain() {
+    show(b"", b"\x01\x00\xFF\xFF\x00\x80\xFF\x7F\x34\x12", 5);
+    show(b"", b"\x01\x00\x02", 2);
 }
 
 // The longest lead: all switches, and all codes of one bit.
 fn show_longest() {
     let lead = zeros();
     show(&SWITCHES, &lead, 1);
-    count_values(&NAMED, &lead);
+    show(&NAMED, &lead, 524280);
 }
 
 fn main() {
     show_examples();
     show_short();
     show_wrong();
-    show_both_plain();
+    show_plain();
     show_longest();
 }

@@ -6,6 +6,7 @@ use std::ops::Range;
 use judge::make::Rng;
 use scp::{raw, Refusal};
 
+use crate::leads;
 use crate::lent::{Lent, Room};
 use crate::tally::{Call, Tally};
 
@@ -26,6 +27,7 @@ pub fn compare(input: &[u8], rng: &mut Rng, tally: &mut Tally) -> Result<(), Dif
     fields(record, rng, tally)?;
     identifiers(record, rng, tally)?;
     crc(record, rng, tally)?;
+    leads::compare(record, rng, tally)?;
     wrapper(record)?;
     hold(lent.is_untouched(), "lent bytes were changed")
 }
@@ -236,12 +238,16 @@ fn part(judged: &Result<Range<usize>, u8>) -> raw::ScpPart {
 }
 
 /// 0, or the refusal.
-fn number<T>(answer: &Result<T, u8>) -> u8 {
+pub(crate) fn number<T>(answer: &Result<T, u8>) -> u8 {
     answer.as_ref().err().copied().unwrap_or(0)
 }
 
 /// Asks that the library's answer is the judge's.
-fn same<T: PartialEq + Debug>(call: &str, library: T, judge: T) -> Result<(), Difference> {
+pub(crate) fn same<T: PartialEq + Debug>(
+    call: &str,
+    library: T,
+    judge: T,
+) -> Result<(), Difference> {
     if library == judge {
         return Ok(());
     }
@@ -251,7 +257,7 @@ fn same<T: PartialEq + Debug>(call: &str, library: T, judge: T) -> Result<(), Di
 }
 
 /// Asks that something holds.
-fn hold(holds: bool, words: &str) -> Result<(), Difference> {
+pub(crate) fn hold(holds: bool, words: &str) -> Result<(), Difference> {
     if holds {
         return Ok(());
     }

@@ -35,6 +35,12 @@ impl Draft {
         self.parts.push((Some(id), with_header(id, data)));
     }
 
+    /// Puts other data into a section that is there.
+    pub fn replace(&mut self, id: u16, data: &[u8]) {
+        let old = self.parts.iter_mut().find(|part| part.0 == Some(id));
+        old.expect("the section is there").1 = with_header(id, data);
+    }
+
     /// Leaves some bytes free.
     pub fn gap(&mut self, bytes: usize) {
         self.parts.push((None, vec![0xEE; bytes]));

@@ -1,14 +1,17 @@
 //! Holds the proved library against the judge, an independent implementation of the same rules.
 //!
 //! Inputs are made by the judge's generator from a seed ([`inputs`]), or laid out by hand at the edges of the rules
-//! ([`edges`]); every call is made by both on each of them, in memory with guards around it ([`calls`]); and every answer
-//! is counted ([`tally`]).
+//! ([`edges`]) and at their ends ([`extremes`]); every call is made by both on each of them, in memory with guards around
+//! it ([`calls`]); and every answer is counted ([`tally`]).
 
 pub mod calls;
 mod draft;
 pub mod edges;
+pub mod extremes;
 pub mod inputs;
+mod leads;
 mod lent;
+mod rhythm;
 pub mod samples;
 pub mod tally;
 

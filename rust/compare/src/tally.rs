@@ -20,6 +20,14 @@ pub enum Call {
     SameIdentifier,
     /// `scp_crc`
     Crc,
+    /// `scp_breaks`: the row that is broken, or 0
+    Breaks,
+    /// `scp_lead`
+    Lead,
+    /// `scp_read_lead`, with the work space untouched
+    ReadLead,
+    /// `scp_read_lead`, with the work space cleared: the reading of a beat had begun
+    ReadLeadWithBeat,
 }
 
 /// How many inputs of each kind there were, and how often each call answered what.
@@ -27,6 +35,8 @@ pub enum Call {
 pub struct Tally {
     inputs: BTreeMap<&'static str, u64>,
     answers: BTreeMap<(Call, u8), u64>,
+    samples: u64,
+    every_place: u64,
 }
 
 impl Tally {
@@ -40,9 +50,19 @@ impl Tally {
         *self.answers.entry((call, number)).or_default() += 1;
     }
 
-    /// The numbers among these that no call answered.
-    pub fn never_reached(&self, numbers: &[u8]) -> Vec<u8> {
-        let reached = |number| self.answers.keys().any(|answer| answer.1 == number);
+    /// Counts samples that were read.
+    pub fn samples(&mut self, count: usize) {
+        self.samples += count as u64;
+    }
+
+    /// Counts a record that was asked for every place that a lead can have.
+    pub fn every_place(&mut self) {
+        self.every_place += 1;
+    }
+
+    /// The numbers among these that a call never answered.
+    pub fn never_reached(&self, call: Call, numbers: &[u8]) -> Vec<u8> {
+        let reached = |number| self.answers.contains_key(&(call, number));
         let missing = numbers.iter().filter(|&&number| !reached(number));
         missing.copied().collect()
     }
@@ -58,10 +78,15 @@ impl fmt::Display for Tally {
             .collect();
         writeln!(f, "compare: {total} inputs ({})", kinds.join(", "))?;
         for (call, count, words) in self.calls() {
-            writeln!(f, "  {:16}{count:>9}  {words}", format!("{call:?}"))?;
+            writeln!(f, "  {:17}{count:>9}  {words}", format!("{call:?}"))?;
         }
         let all: u64 = self.answers.values().sum();
-        write!(f, "compare: {all} answers, all as the judge's")
+        let (samples, records) = (self.samples, self.every_place);
+        writeln!(f, "compare: {records} records asked for every place")?;
+        write!(
+            f,
+            "compare: {all} answers, with {samples} samples, all as the judge's"
+        )
     }
 }
 

@@ -10,11 +10,19 @@ fn each_edge_is_on_its_side() {
     let edges = edges::all();
     println!("{} edges", edges.len());
     for edge in edges {
-        let name = edge.name;
-        let judged = judge::open(&edge.record).err().unwrap_or(0);
-        assert_eq!(judged, edge.refusal, "{name}, by the judge");
-        let opened = scp::open(&edge.record).map_or_else(scp::Refusal::number, |_| 0);
-        assert_eq!(opened, edge.refusal, "{name}, by the library");
+        let (name, record) = (edge.name, edge.record);
+        let judged = judge::open(&record).err().unwrap_or(0);
+        assert_eq!(judged, edge.opened, "{name}, opened by the judge");
+        let opened = scp::open(&record).map_or_else(scp::Refusal::number, |_| 0);
+        assert_eq!(opened, edge.opened, "{name}, opened by the library");
+        if let Some(expected) = edge.read {
+            let room = scp::SAMPLES_MAX;
+            let judged = judge::read_lead(&record, 1, room, room);
+            let judged = judged.map_or_else(|refused| refused.number, |_| 0);
+            assert_eq!(judged, expected, "{name}, read by the judge");
+            let read = scp::samples(&record, 1).map_or_else(scp::Refusal::number, |_| 0);
+            assert_eq!(read, expected, "{name}, read by the library");
+        }
     }
 }
 

@@ -1,13 +1,16 @@
-//! Every call on a thread with a stack of 64 KiB.
+//! Every call on a thread with a small stack: 64 KiB for those on the header, 256 KiB for those on leads, which have room of
+//! their own for a lead.
 
 use std::ops::Range;
 use std::thread;
 
+use compare::extremes;
 use compare::inputs::{self, Filling, Kind};
 use judge::make::Rng;
 use scp::{Pointer, Refusal};
 
 const STACK: usize = 64 * 1024;
+const STACK_FOR_LEADS: usize = 256 * 1024;
 
 /// What every call answers of a record.
 #[derive(Debug, PartialEq)]
@@ -82,5 +85,81 @@ fn made_records_fit_a_small_stack() {
     let answers = on_a_small_stack(records.clone());
     for (answers, record) in answers.iter().zip(&records) {
         assert_eq!(*answers, judge(record));
+    }
+}
+
+// ---- leads
+
+/// What the calls on leads answer of a record.
+#[derive(Debug, PartialEq)]
+struct Leads {
+    broken: Option<u8>,
+    entry: Result<(u8, u32, u32, u32), u8>,
+    samples: [Result<Vec<i16>, u8>; 3],
+}
+
+/// The first lead, the last that there can be, and one that there cannot be.
+const PLACES: [usize; 3] = [1, 32, 33];
+
+fn library_leads(record: &[u8], rooms: &mut [Vec<i16>; 2]) -> Leads {
+    let [out, work] = rooms;
+    Leads {
+        broken: (1..=9).find(|&row| scp::breaks(record, row)),
+        entry: scp::lead(record, 1)
+            .map(|entry| (entry.id, entry.first, entry.last, entry.bytes as u32))
+            .map_err(Refusal::number),
+        samples: PLACES.map(|place| {
+            let lead = scp::read_lead(record, place, out, work).map_err(Refusal::number)?;
+            Ok(out[..lead.count].to_vec())
+        }),
+    }
+}
+
+fn judge_leads(record: &[u8]) -> Leads {
+    let room = scp::SAMPLES_MAX;
+    Leads {
+        broken: (1..=9).find(|&row| judge::breaks(record, row)),
+        entry: judge::lead(record, 1).map(|entry| (entry.id, entry.first, entry.last, entry.bytes)),
+        samples: PLACES.map(|place| {
+            let read = judge::read_lead(record, place, room, room);
+            read.map(|lead| lead.samples)
+                .map_err(|refused| refused.number)
+        }),
+    }
+}
+
+/// Makes the library's calls on leads on a small stack. The room that is lent is not on it.
+fn leads_on_a_small_stack(records: Vec<Vec<u8>>) -> Vec<Leads> {
+    let calls = move || {
+        let mut rooms = [vec![0; scp::SAMPLES_MAX], vec![0; scp::SAMPLES_MAX]];
+        let leads = |record: &Vec<u8>| library_leads(record, &mut rooms);
+        records.iter().map(leads).collect()
+    };
+    let thread = thread::Builder::new()
+        .stack_size(STACK_FOR_LEADS)
+        .spawn(calls);
+    thread.unwrap().join().unwrap()
+}
+
+#[test]
+fn the_extremes_fit_a_small_stack() {
+    let records: Vec<_> = extremes::all().map(|extreme| extreme.record).collect();
+    let leads = leads_on_a_small_stack(records.clone());
+    for ((leads, record), extreme) in leads.iter().zip(&records).zip(extremes::all()) {
+        let read = leads.samples[0]
+            .as_ref()
+            .map_or_else(|number| *number, |_| 0);
+        assert_eq!(read, extreme.read, "{}", extreme.name);
+        assert!(*leads == judge_leads(record), "{}", extreme.name);
+    }
+}
+
+#[test]
+fn made_leads_fit_a_small_stack() {
+    let make = |number| inputs::make(Kind::of(number), &mut Rng::new(number));
+    let records: Vec<_> = (0..500).map(make).collect();
+    let leads = leads_on_a_small_stack(records.clone());
+    for (leads, record) in leads.iter().zip(&records) {
+        assert!(*leads == judge_leads(record));
     }
 }

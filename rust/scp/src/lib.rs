@@ -16,10 +16,22 @@
 //! }
 //! # Ok::<(), std::io::Error>(())
 //! ```
+//!
+//! A lead is read by its place, and comes with the step that its samples are multiples of:
+//!
+//! ```no_run
+//! let record = std::fs::read("record.scp")?;
+//! match scp::samples(&record, 1) {
+//!     Ok((lead, samples)) => println!("{samples:?}, each times {} nV", lead.step),
+//!     Err(refusal) => println!("refused: {refusal}"),
+//! }
+//! # Ok::<(), std::io::Error>(())
+//! ```
 
 #![warn(missing_docs)]
 
 mod fields;
+mod leads;
 pub mod raw;
 mod record;
 mod refusal;
@@ -27,5 +39,6 @@ mod refusal;
 pub use fields::{
     field, fields, same_identifier, walk_start, walk_step, Field, Fields, Step, FIRST_FIELD,
 };
-pub use record::{crc, open, Pointer, RECORD_MAX};
+pub use leads::{lead, leads, read_lead, samples, Entry, Lead, LEADS_MAX, SAMPLES_MAX};
+pub use record::{breaks, crc, open, Pointer, RECORD_MAX};
 pub use refusal::Refusal;

@@ -44,6 +44,52 @@ pub struct ScpStep {
     pub next: usize,
 }
 
+/// A lead that was read.
+#[repr(C)]
+#[derive(Clone, Copy, Debug, Default, PartialEq, Eq)]
+pub struct ScpLead {
+    /// 0, or the refusal.
+    pub refusal: u8,
+    /// The lead's ID.
+    pub id: u8,
+    /// The flags of Section 3.
+    pub flags: u8,
+    /// The step of a sample in nanovolts.
+    pub step: u16,
+    /// The interval between two samples in microseconds.
+    pub interval: u16,
+    /// The number of the first sample.
+    pub first: u32,
+    /// How many samples there are.
+    pub count: u32,
+}
+
+/// What a record says of a lead, its stream unread.
+#[repr(C)]
+#[derive(Clone, Copy, Debug, Default, PartialEq, Eq)]
+pub struct ScpEntry {
+    /// 0, or the refusal.
+    pub refusal: u8,
+    /// The lead's ID.
+    pub id: u8,
+    /// The flags of Section 3.
+    pub flags: u8,
+    /// The order of the differences in Section 6.
+    pub order: u8,
+    /// The step of a sample in nanovolts.
+    pub step: u16,
+    /// The interval between two samples in microseconds.
+    pub interval: u16,
+    /// The number of the first sample.
+    pub first: u32,
+    /// The number of the last sample.
+    pub last: u32,
+    /// How many leads the record has.
+    pub leads: u32,
+    /// The bytes of the lead's stream in Section 6.
+    pub bytes: u32,
+}
+
 extern "C" {
     /// The check of `n` bytes.
     pub fn scp_crc(p: *const u8, n: usize) -> u16;
@@ -57,4 +103,18 @@ extern "C" {
     pub fn scp_walk_start(record: *const u8, n: usize) -> ScpPart;
     /// Takes a step over the fields of Section 1.
     pub fn scp_walk_step(section: *const u8, n: usize, at: usize) -> ScpStep;
+    /// Reads the lead at a place, from 1.
+    pub fn scp_read_lead(
+        record: *const u8,
+        n: usize,
+        place: usize,
+        out: *mut i16,
+        out_n: usize,
+        work: *mut i16,
+        work_n: usize,
+    ) -> ScpLead;
+    /// Shows what the record says of the lead at a place, from 1.
+    pub fn scp_lead(record: *const u8, n: usize, place: usize) -> ScpEntry;
+    /// Whether the rule of a row, 1 to 9, is broken, asked alone.
+    pub fn scp_breaks(record: *const u8, n: usize, row: u8) -> u8;
 }

@@ -1,4 +1,4 @@
-//! The record: its check, and opening it.
+//! The record: its check, opening it, and its rules one by one.
 
 use crate::raw;
 use crate::Refusal;
@@ -38,6 +38,13 @@ pub fn open(record: &[u8]) -> Result<Vec<Pointer>, Refusal> {
     Refusal::or(opened.refusal, ())?;
     let stored = numbers.chunks_exact(3).take(opened.count as usize);
     Ok(stored.map(pointer).collect())
+}
+
+/// Whether a record breaks the rule of a row, 1 to 9, asked alone; of any other row, false. The answer means its row where
+/// the rules of all smaller rows are kept.
+pub fn breaks(record: &[u8], row: u8) -> bool {
+    // SAFETY: the pointer and the length are those of a slice lent for the call, which only reads it.
+    unsafe { raw::scp_breaks(record.as_ptr(), record.len(), row) != 0 }
 }
 
 /// The pointer that three numbers of the answer make. Its ID was stored in two bytes, so it fits.

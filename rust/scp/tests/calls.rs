@@ -1,11 +1,16 @@
 //! The safe calls, on what can be told by hand. `compare` has the many inputs.
 
-use scp::{Refusal, Step, FIRST_FIELD};
+use scp::{Entry, Lead, Refusal, Step, FIRST_FIELD};
 
-/// Sections 0 and 1 alone, for the patient 007: `samples/007.scp`.
+/// A file of `samples/`.
+fn sample(name: &str) -> Vec<u8> {
+    let folder = concat!(env!("CARGO_MANIFEST_DIR"), "/../../samples/");
+    std::fs::read(format!("{folder}{name}")).unwrap()
+}
+
+/// Sections 0 and 1 alone, for the patient 007.
 fn record() -> Vec<u8> {
-    let path = concat!(env!("CARGO_MANIFEST_DIR"), "/../../samples/007.scp");
-    std::fs::read(path).unwrap()
+    sample("007.scp")
 }
 
 #[test]
@@ -86,4 +91,100 @@ fn a_step_shows_a_whole_field_or_the_end() {
     assert_eq!(scp::walk_step(&section, step.next), None);
     assert_eq!(scp::walk_step(&section[..20], FIRST_FIELD), None);
     assert_eq!(scp::walk_step(&section, usize::MAX), None);
+}
+
+#[test]
+fn a_lead_is_read_into_the_room_lent() {
+    let record = sample("two-leads.scp");
+    let mut out = [77; 10];
+    let mut work = [5; 3];
+    let lead = scp::read_lead(&record, 1, &mut out, &mut work).unwrap();
+    let expected = Lead {
+        id: 1,
+        flags: 0,
+        step: 5000,
+        interval: 2000,
+        first: 1,
+        count: 8,
+    };
+    assert_eq!(lead, expected);
+    assert_eq!(out, [10, 12, 13, 15, 18, 22, 20, 15, 77, 77]);
+    assert_eq!(work, [5; 3], "no beat was subtracted");
+    assert!(!lead.had_beat_subtracted());
+    let refusal = scp::read_lead(&record, 1, &mut out[..7], &mut []).unwrap_err();
+    assert_eq!(refusal.number(), 11);
+    assert_eq!(out[..2], [10, 12]);
+}
+
+#[test]
+fn work_space_is_zeros_once_a_beat_is_read() {
+    let record = sample("beat.scp");
+    let (mut out, mut work) = ([0; 40], [5; 9]);
+    let short = scp::read_lead(&record, 1, &mut out, &mut work[..7]);
+    assert_eq!(short.map_err(Refusal::number), Err(11));
+    assert_eq!((work, out), ([5; 9], [0; 40]));
+    let lead = scp::read_lead(&record, 1, &mut out, &mut work).unwrap();
+    assert!(lead.had_beat_subtracted());
+    assert_eq!(out[..10], [-2, -1, 0, 5, 42, 88, 59, -20, -4, 2]);
+    assert_eq!(work, [0; 9]);
+
+    let record = sample("refused-13.scp");
+    let (mut out, mut work) = ([7; 40], [5; 9]);
+    let refused = scp::read_lead(&record, 2, &mut out, &mut work);
+    assert_eq!(refused.map_err(Refusal::number), Err(13));
+    assert_eq!((work, out), ([0; 9], [7; 40]));
+}
+
+#[test]
+fn entries_say_what_reading_finds() {
+    for name in [
+        "two-leads.scp",
+        "limb-leads.scp",
+        "own-tables.scp",
+        "beat.scp",
+    ] {
+        let record = sample(name);
+        let leads = scp::leads(&record).unwrap();
+        assert_eq!(leads.len(), leads[0].leads);
+        for (place, entry) in (1..).zip(&leads) {
+            let (lead, samples) = scp::samples(&record, place).unwrap();
+            assert_eq!((samples.len(), lead.count), (entry.count(), entry.count()));
+            assert_eq!((lead.id, lead.first), (entry.id, entry.first));
+            assert_eq!(lead.flags, entry.flags);
+            assert_eq!((lead.step, lead.interval), (entry.step, entry.interval));
+            assert_eq!(scp::lead(&record, place), Ok(*entry));
+        }
+        let past = scp::samples(&record, leads.len() + 1);
+        assert_eq!(past.map_err(Refusal::number), Err(10));
+    }
+    let six = scp::lead(&sample("limb-leads.scp"), 6).unwrap();
+    let expected = Entry {
+        id: 64,
+        flags: 3 << 3,
+        order: 2,
+        step: 5000,
+        interval: 2000,
+        first: 41,
+        last: 80,
+        leads: 6,
+        bytes: 10,
+    };
+    assert_eq!(six, expected);
+}
+
+#[test]
+fn each_rule_is_asked_alone() {
+    for (name, broken) in [
+        ("beat.scp", None),
+        ("refused-2.scp", Some(2)),
+        ("refused-7.scp", Some(7)),
+        ("refused-8.scp", Some(8)),
+        ("refused-9.scp", Some(9)),
+        ("refused-12.scp", None),
+    ] {
+        let record = sample(name);
+        let first = (0..=255).find(|&row| scp::breaks(&record, row));
+        assert_eq!(first, broken, "{name}");
+    }
+    assert!(scp::breaks(&[], 1) && !scp::breaks(&[], 0) && !scp::breaks(&[], 10));
 }

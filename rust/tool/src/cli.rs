@@ -8,7 +8,7 @@ use clap::{Parser, Subcommand};
 const STATUS: &str = "\
 Exit status:
   0  every file was accepted
-  1  some file was refused
+  1  some file was refused, or some lead of it
   2  some of the work could not be done: a file could not be read, an answer
      not written, or the command line is not understood
 
@@ -60,6 +60,47 @@ pub enum Command {
         /// The record to show
         #[arg(value_name = "FILE")]
         file: PathBuf,
+    },
+    /// Show what a record says of each of its leads
+    ///
+    /// For each lead of Section 3: its place there, from 1, its ID and name, the
+    /// numbers of its first and last sample, how many samples it has, the step in
+    /// nanovolts, the interval between two samples in microseconds, the order of the
+    /// differences stored, and how many bits a sample takes. The leads' streams are
+    /// not read; samples does that.
+    #[command(verbatim_doc_comment, after_help = STATUS)]
+    Leads {
+        /// The record to show
+        #[arg(value_name = "FILE")]
+        file: PathBuf,
+        /// As JSON
+        #[arg(long)]
+        json: bool,
+    },
+    /// Show the samples of a record's leads
+    ///
+    /// Samples are whole numbers, each so many steps of the nanovolts that are shown
+    /// beside them. Every sample shown is the one that was stored: where a reference
+    /// beat was subtracted it is added back. A lead that is refused is shown with its
+    /// refusal and nothing else, and does not stop the others.
+    ///
+    /// As CSV (RFC 4180) there is a column for each lead, and a row for each sample
+    /// number that some lead has; refusals go to standard error, and the lead's
+    /// column is headed by its refusal and empty.
+    #[command(verbatim_doc_comment, after_help = STATUS)]
+    Samples {
+        /// The record to show
+        #[arg(value_name = "FILE")]
+        file: PathBuf,
+        /// The lead at this place alone, from 1
+        #[arg(long, value_name = "PLACE")]
+        lead: Option<usize>,
+        /// As CSV
+        #[arg(long, conflicts_with = "json")]
+        csv: bool,
+        /// As JSON
+        #[arg(long)]
+        json: bool,
     },
 }
 

@@ -7,6 +7,7 @@ mod cli;
 mod commands;
 mod explain;
 mod input;
+mod json;
 mod names;
 mod output;
 mod refused;
@@ -18,6 +19,7 @@ use std::process::ExitCode;
 use clap::Parser;
 
 use cli::{Cli, Command};
+use commands::samples::Form;
 use output::Output;
 
 fn main() -> ExitCode {
@@ -25,6 +27,13 @@ fn main() -> ExitCode {
     let status = match Cli::parse().command {
         Command::Open { files } => commands::open::run(&files, &mut output),
         Command::Fields { file } => commands::fields::run(&file, &mut output),
+        Command::Leads { file, json } => commands::leads::run(&file, json, &mut output),
+        Command::Samples {
+            file,
+            lead,
+            csv,
+            json,
+        } => commands::samples::run(&file, lead, Form::of(csv, json), &mut output),
     };
     output.end(status).into()
 }

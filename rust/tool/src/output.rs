@@ -40,6 +40,19 @@ impl Output {
         self.attempt(|to| writeln!(to, "{line}"));
     }
 
+    /// Writes by a function that takes what it writes to.
+    pub fn write(&mut self, write: impl FnOnce(&mut BufWriter<Stdout>) -> io::Result<()>) {
+        self.attempt(write);
+    }
+
+    /// Says lines on standard error, below what was shown so far.
+    pub fn remark(&mut self, lines: &[String]) {
+        self.attempt(Write::flush);
+        for line in lines {
+            complain(line);
+        }
+    }
+
     /// Complains of a file on standard error, below what was shown so far.
     pub fn complain(&mut self, file: &Path, error: &io::Error) {
         self.attempt(Write::flush);

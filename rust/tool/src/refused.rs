@@ -4,36 +4,63 @@ use std::path::Path;
 
 use scp::Refusal;
 
-use crate::explain;
+use crate::explain::{self, Looked};
 use crate::input::Input;
 use crate::output::{shown, Output};
 
 /// How many things found are shown; a record can break one rule in a great many places.
 const FOUND_SHOWN: usize = 8;
 
+/// Whose word a refusal is, and whose its explanation.
+pub const NOTE: &str = "The refusal is the proved library's; what was found is the tool's own look at the bytes, to explain it.";
+
 /// Shows a refusal: its number, what its rule asks, and what was found.
 pub fn show(file: &Path, input: &Input, refusal: Refusal, output: &mut Output) {
-    output.line(format_args!(
-        "{}: refused, number {} ({})",
-        shown(file),
-        refusal.number(),
-        input.size
-    ));
-    output.line(format_args!("  rule   {}", refusal.words()));
-    let found = explain::found(&input.bytes, input.size, refusal);
+    show_asked(file, input, 1, refusal, output);
+}
+
+/// Shows a refusal where the lead at a place was asked for.
+pub fn show_asked(file: &Path, input: &Input, place: usize, refusal: Refusal, output: &mut Output) {
+    output.line(heading(file, input, refusal));
+    for line in lines(input, place, refusal) {
+        output.line(line);
+    }
+}
+
+/// The line that a refusal of a record starts with.
+pub fn heading(file: &Path, input: &Input, refusal: Refusal) -> String {
+    let (name, number, size) = (shown(file), refusal.number(), input.size);
+    format!("{name}: refused, number {number} ({size})")
+}
+
+/// What the rule asks, and what was found, in lines. The place is that of the lead that was asked for.
+pub fn lines(input: &Input, place: usize, refusal: Refusal) -> Vec<String> {
+    let mut lines = vec![format!("  rule   {}", refusal.words())];
+    let found = found(input, place, refusal);
     let mut label = "found";
     for one in found.iter().take(FOUND_SHOWN) {
-        output.line(format_args!("  {label:5}  {one}"));
+        lines.push(format!("  {label:5}  {one}"));
         label = "";
     }
     if found.len() > FOUND_SHOWN {
         let more = found.len() - FOUND_SHOWN;
-        output.line(format_args!("         and {more} more"));
+        lines.push(format!("         and {more} more"));
     }
+    lines
+}
+
+/// All that was found.
+pub fn found(input: &Input, place: usize, refusal: Refusal) -> Vec<String> {
+    let looked = Looked {
+        record: &input.bytes,
+        size: input.size,
+        place,
+    };
+    explain::found(&looked, refusal)
 }
 
 /// Says whose word a refusal is, and whose its explanation.
 pub fn footnote(output: &mut Output) {
     output.block();
-    output.line("The refusal is the proved library's; what was found is the tool's own look at the bytes, to explain it.");
+    output.line(NOTE);
 }

@@ -1,4 +1,4 @@
-//! The tool on every sample: its exit status and the first line that it shows.
+//! The tool on every sample: its exit status and the first line that it shows, and what else a sample is there for.
 
 mod common;
 
@@ -6,9 +6,10 @@ use std::collections::BTreeSet;
 use std::fs;
 
 use common::{run, samples};
+use serde_json::Value;
 
 /// A sample, and the first line of `open` and of `fields` after its name.
-const SAMPLES: [(&str, i32, &str, &str); 10] = [
+const SAMPLES: [(&str, i32, &str, &str); 20] = [
     (
         "007.scp",
         0,
@@ -31,6 +32,24 @@ const SAMPLES: [(&str, i32, &str, &str); 10] = [
         "makers-sections.scp",
         0,
         "accepted (296 bytes; 15 pointers, 4 sections present)",
+        "accepted (5 fields)",
+    ),
+    (
+        "limb-leads.scp",
+        0,
+        "accepted (410 bytes; 12 pointers, 5 sections present)",
+        "accepted (5 fields)",
+    ),
+    (
+        "own-tables.scp",
+        0,
+        "accepted (408 bytes; 12 pointers, 5 sections present)",
+        "accepted (5 fields)",
+    ),
+    (
+        "beat.scp",
+        0,
+        "accepted (418 bytes; 12 pointers, 7 sections present)",
         "accepted (5 fields)",
     ),
     (
@@ -68,6 +87,132 @@ const SAMPLES: [(&str, i32, &str, &str); 10] = [
         1,
         "refused, number 6 (194 bytes)",
         "refused, number 6 (194 bytes)",
+    ),
+    (
+        "refused-7.scp",
+        0,
+        "accepted (346 bytes; 12 pointers, 5 sections present)",
+        "accepted (5 fields)",
+    ),
+    (
+        "refused-8.scp",
+        0,
+        "accepted (418 bytes; 12 pointers, 7 sections present)",
+        "accepted (5 fields)",
+    ),
+    (
+        "refused-9.scp",
+        0,
+        "accepted (418 bytes; 12 pointers, 7 sections present)",
+        "accepted (5 fields)",
+    ),
+    (
+        "refused-10.scp",
+        0,
+        "accepted (232 bytes; 12 pointers, 3 sections present)",
+        "accepted (5 fields)",
+    ),
+    (
+        "refused-12.scp",
+        0,
+        "accepted (406 bytes; 12 pointers, 5 sections present)",
+        "accepted (5 fields)",
+    ),
+    (
+        "refused-13.scp",
+        0,
+        "accepted (414 bytes; 12 pointers, 7 sections present)",
+        "accepted (5 fields)",
+    ),
+    (
+        "refused-14.scp",
+        0,
+        "accepted (408 bytes; 12 pointers, 5 sections present)",
+        "accepted (5 fields)",
+    ),
+];
+
+/// A sample that opens, and the status and the first line of `leads` and of `samples` after its name.
+const LEADS: [(&str, [(i32, &str); 2]); 14] = [
+    ("007.scp", [(1, "refused, number 10 (196 bytes)"); 2]),
+    ("7.scp", [(1, "refused, number 10 (194 bytes)"); 2]),
+    (
+        "makers-sections.scp",
+        [(1, "refused, number 10 (296 bytes)"); 2],
+    ),
+    (
+        "two-leads.scp",
+        [
+            (
+                0,
+                "accepted (2 leads; flags 0x00, no reference beat was subtracted)",
+            ),
+            (0, "accepted (2 leads)"),
+        ],
+    ),
+    (
+        "limb-leads.scp",
+        [
+            (
+                0,
+                "accepted (6 leads; flags 0x18, no reference beat was subtracted)",
+            ),
+            (0, "accepted (6 leads)"),
+        ],
+    ),
+    (
+        "own-tables.scp",
+        [
+            (
+                0,
+                "accepted (2 leads; flags 0x00, no reference beat was subtracted)",
+            ),
+            (0, "accepted (2 leads)"),
+        ],
+    ),
+    (
+        "beat.scp",
+        [
+            (
+                0,
+                "accepted (2 leads; flags 0x05, a reference beat was subtracted)",
+            ),
+            (0, "accepted (2 leads)"),
+        ],
+    ),
+    ("refused-7.scp", [(1, "refused, number 7 (346 bytes)"); 2]),
+    ("refused-8.scp", [(1, "refused, number 8 (418 bytes)"); 2]),
+    ("refused-9.scp", [(1, "refused, number 9 (418 bytes)"); 2]),
+    ("refused-10.scp", [(1, "refused, number 10 (232 bytes)"); 2]),
+    (
+        "refused-12.scp",
+        [
+            (
+                0,
+                "accepted (2 leads; flags 0x00, no reference beat was subtracted)",
+            ),
+            (1, "1 of 2 leads refused"),
+        ],
+    ),
+    (
+        "refused-13.scp",
+        [
+            (
+                0,
+                "accepted (2 leads; flags 0x05, a reference beat was subtracted)",
+            ),
+            (1, "1 of 2 leads refused"),
+        ],
+    ),
+    (
+        "refused-14.scp",
+        [
+            (
+                0,
+                "accepted (2 leads; flags 0x00, no reference beat was subtracted)",
+            ),
+            (1, "1 of 2 leads refused"),
+        ],
     ),
 ];
 
@@ -108,7 +253,7 @@ fn all_samples_are_opened_at_once() {
     assert_eq!(ran.status, 1);
     assert!(ran
         .out
-        .ends_with("\n10 files: 4 accepted, 6 refused, 0 not read\n"));
+        .ends_with("\n20 files: 14 accepted, 6 refused, 0 not read\n"));
     for (name, _, line, _) in SAMPLES {
         assert!(ran.out.contains(&format!("{name}: {line}\n")), "{name}");
     }
@@ -148,6 +293,157 @@ fn a_refusal_is_explained() {
         assert!(ran.out.contains(found), "{found}\n{}", ran.out);
         assert!(ran.out.contains("the tool's own look at the bytes"), "{}", ran.out);
     }
+}
+
+/// What opens is in one table, and what does not is refused alike by every command.
+#[test]
+fn the_leads_of_each_sample_are_shown() {
+    for (name, opened, line, _) in SAMPLES {
+        let known = LEADS.iter().find(|sample| sample.0 == name);
+        assert_eq!(known.is_some(), opened == 0, "{name}");
+        let expected = known.map_or([(1, line); 2], |known| known.1);
+        for (command, (status, line)) in ["leads", "samples"].into_iter().zip(expected) {
+            let ran = run(&[command, name]);
+            assert_eq!(ran.first_line(), format!("{name}: {line}"), "{command}");
+            let ended = (ran.status, ran.err.as_str());
+            assert_eq!(ended, (status, ""), "{command} {name}");
+            let ran = run(&[command, name, "--json"]);
+            assert_eq!((ran.status, ran.err.as_str()), (status, ""), "{name}");
+            let json: Value = serde_json::from_str(&ran.out).unwrap();
+            assert_eq!(json["file"], name);
+            assert_eq!(json["refusal"].is_null(), !line.starts_with("refused"));
+        }
+    }
+}
+
+#[test]
+fn a_refusal_of_leads_is_explained() {
+    for (name, found) in [
+        ("007.scp", "found  Section 3 is absent\n         Section 6 is absent\n"),
+        ("refused-7.scp", "table 2, structure 3: its prefix 101 begins with structure 2's, 10"),
+        ("refused-8.scp", "QRS 2: the zone starts at 10, and the one before it ends at 10"),
+        ("refused-9.scp", "the interval is 1000 in Section 5 and 2000 in Section 6"),
+        ("refused-10.scp", "found  Section 6 is absent\n"),
+        ("refused-12.scp", "Section 6, lead 2: no value for sample 13: the stream ends inside the code at bit 47 of 48"),
+        ("refused-13.scp", "sample 6 is 32820 with beat sample 4 added"),
+        ("refused-14.scp", "Section 6, lead 2: 12 bits are left of 64 after the last sample"),
+    ] {
+        let ran = run(&["samples", name]);
+        assert!(ran.out.contains(found), "{found}\n{}", ran.out);
+        assert!(ran.out.contains("the tool's own look at the bytes"), "{}", ran.out);
+        let ran = run(&["samples", name, "--csv"]);
+        assert_eq!(ran.status, 1);
+        assert!(ran.err.contains(found.lines().next().unwrap()), "{found}\n{}", ran.err);
+        assert!(ran.err.contains("the tool's own look at the bytes"), "{}", ran.err);
+    }
+}
+
+#[test]
+fn leads_are_shown_with_their_names() {
+    let ran = run(&["leads", "limb-leads.scp"]);
+    for line in [
+        "  Place  ID  Lead  First  Last  Samples  Step (nV)  Interval (us)  Order  Bits a sample",
+        "      1   1  I         1    40       40       5000           2000      2           4.20",
+        "      3  61  III       1    40       40       5000           2000      2           3.60",
+        "      6  64  aVF      41    80       40       5000           2000      2           2.00",
+    ] {
+        assert!(
+            ran.out.lines().any(|shown| shown == line),
+            "{line}\n{}",
+            ran.out
+        );
+    }
+}
+
+#[test]
+fn samples_are_shown_as_they_are_stored() {
+    let ran = run(&["samples", "two-leads.scp"]);
+    let text = "\
+two-leads.scp: accepted (2 leads)
+
+Lead 1, I: samples 1 to 8, in steps of 5000 nV, 2000 us apart
+  1   10  12  13  15  18  22  20  15
+
+Lead 2, II: samples 1 to 8, in steps of 5000 nV, 2000 us apart
+  1   -3  -3  -2  -1   4   0  -1  -1
+";
+    assert_eq!(ran.out, text);
+    let ran = run(&["samples", "own-tables.scp", "--lead", "2"]);
+    let text = "\
+own-tables.scp: accepted (lead 2 of 2)
+
+Lead 2, II: samples 7 to 14, in steps of 5000 nV, 2000 us apart
+   7     15    15     0  -128   127     1     1     1
+";
+    assert_eq!(ran.out, text);
+}
+
+#[test]
+fn a_table_has_a_column_for_each_lead() {
+    let ran = run(&["samples", "own-tables.scp", "--csv"]);
+    let rows: Vec<&str> = ran.out.split("\r\n").collect();
+    assert_eq!(rows[0], "sample,1 I (5000 nV),2 II (5000 nV)");
+    assert_eq!(
+        rows[1..9],
+        ["1,1,", "2,2,", "3,-1,", "4,0,", "5,3,", "6,0,", "7,4,15", "8,1,15"]
+    );
+    assert_eq!(rows[20..], ["20,1,", ""]);
+    let ran = run(&["samples", "limb-leads.scp", "--csv", "--lead", "4"]);
+    let rows: Vec<&str> = ran.out.split("\r\n").collect();
+    assert_eq!(rows[..2], ["sample,4 aVR (5000 nV)", "41,0"]);
+    assert_eq!(rows.len(), 42);
+    // A record that is refused has no table; a lead that is refused has an empty column.
+    let ran = run(&["samples", "refused-9.scp", "--csv"]);
+    assert_eq!((ran.status, ran.out.as_str()), (1, ""));
+    let ran = run(&["samples", "refused-14.scp", "--csv"]);
+    let rows: Vec<&str> = ran.out.split("\r\n").collect();
+    assert_eq!(rows[0], "sample,1 I (5000 nV),2 II (refused 14)");
+    assert_eq!(rows[12], "12,15,");
+}
+
+#[test]
+fn json_says_what_there_is() {
+    let json = |words: &[&str]| -> Value { serde_json::from_str(&run(words).out).unwrap() };
+    let shown = json(&["samples", "beat.scp", "--json"]);
+    assert_eq!(shown["bytes"], 418);
+    assert_eq!(shown["flags"], 5);
+    assert_eq!(shown["reference_beat_subtracted"], true);
+    assert_eq!(shown["step_nanovolts"], 5000);
+    assert_eq!(shown["interval_microseconds"], 2000);
+    assert_eq!(shown["difference_order"], 1);
+    let lead = &shown["leads"][1];
+    assert_eq!(
+        (&lead["place"], &lead["id"], &lead["name"]),
+        (&2.into(), &2.into(), &"II".into())
+    );
+    assert_eq!(
+        (&lead["first_sample"], &lead["last_sample"]),
+        (&5.into(), &30.into())
+    );
+    assert_eq!((&lead["count"], &lead["bytes"]), (&26.into(), &12.into()));
+    assert_eq!(lead["bits_a_sample"], 3.69);
+    assert!(lead["refusal"].is_null());
+    assert_eq!(lead["samples"].as_array().unwrap()[..4], [28, 119, 80, -9]);
+
+    let shown = json(&["leads", "beat.scp", "--json"]);
+    assert_eq!(shown["leads"].as_array().unwrap().len(), 2);
+    assert!(shown["leads"][0].get("samples").is_none());
+    let shown = json(&["samples", "refused-12.scp", "--json"]);
+    assert_eq!(shown["leads"][0]["samples"][1], 2);
+    assert_eq!(shown["leads"][1]["refusal"]["number"], 12);
+    assert!(shown["leads"][1].get("samples").is_none());
+    let shown = json(&["samples", "beat.scp", "--lead", "3", "--json"]);
+    assert_eq!(shown["refusal"]["number"], 10);
+    let found = &shown["refusal"]["found"];
+    assert_eq!(
+        *found,
+        serde_json::json!(["there is no lead 3: Section 3 has 2"])
+    );
+    assert!(shown["note"]
+        .as_str()
+        .unwrap()
+        .contains("the tool's own look"));
+    assert!(shown.get("leads").is_none());
 }
 
 /// An identifier is its bytes: its zeros and its NUL are shown, and 007 is not 7.

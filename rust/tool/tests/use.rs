@@ -58,6 +58,18 @@ fn standard_input_is_a_dash() {
         ran.first_line(),
         "standard input: refused, number 6 (194 bytes)"
     );
+    for (command, line) in [
+        (
+            "leads",
+            "standard input: accepted (2 leads; flags 0x00, no reference beat was subtracted)",
+        ),
+        ("samples", "standard input: accepted (2 leads)"),
+    ] {
+        let ran = run_with_input(&[command, "-"], sample("two-leads.scp").into());
+        assert_eq!((ran.status, ran.first_line()), (0, line));
+    }
+    let ran = run_with_input(&["samples", "-", "--json"], sample("two-leads.scp").into());
+    assert!(ran.out.contains("\"file\": \"-\""), "{}", ran.out);
 }
 
 #[test]
@@ -87,13 +99,15 @@ fn a_missing_file_does_not_stop_the_others() {
             .ends_with("\n\n3 files: 1 accepted, 1 refused, 1 not read\n"));
         assert!(!ran.out.starts_with('\n') && !ran.out.contains("\n\n\n"));
     }
-    let ran = run(&["fields", "none.scp"]);
-    assert_eq!((ran.status, ran.out.as_str()), (2, ""));
+    for command in ["fields", "leads", "samples"] {
+        let ran = run(&[command, "none.scp"]);
+        assert_eq!((ran.status, ran.out.as_str()), (2, ""));
+    }
 }
 
 #[test]
 fn a_folder_is_no_file() {
-    for command in ["open", "fields"] {
+    for command in ["open", "fields", "leads", "samples"] {
         let ran = run(&[command, "."]);
         assert_eq!(ran.status, 2);
         assert_eq!(ran.err, "tigmavresh: .: Is a directory\n");
@@ -105,7 +119,7 @@ fn a_folder_is_no_file() {
 fn an_empty_file_is_refused() {
     let folder = Folder::new("empty");
     let file = folder.file("empty.scp", b"");
-    for command in ["open", "fields"] {
+    for command in ["open", "fields", "leads", "samples"] {
         let ran = run(&[command, &file]);
         assert_eq!(ran.status, 1);
         assert_eq!(
@@ -161,16 +175,68 @@ fn a_closed_pipe_is_quiet() {
     }
 }
 
+/// The same in the middle of a long table.
+#[test]
+fn a_closed_pipe_is_quiet_in_a_table() {
+    let folder = Folder::new("table");
+    let file = folder.file("long.scp", &long_lead());
+    for form in ["--csv", "--json"] {
+        let mut child = tool()
+            .args(["samples", &file, form])
+            .stdout(Stdio::piped())
+            .stderr(Stdio::piped())
+            .spawn()
+            .unwrap();
+        let mut line = String::new();
+        let mut reader = BufReader::with_capacity(1, child.stdout.take().unwrap());
+        reader.read_line(&mut line).unwrap();
+        drop(reader);
+        let ran = Ran::from(child.wait_with_output().unwrap());
+        assert_eq!((ran.status, ran.err.as_str()), (0, ""), "{form}");
+    }
+    let ran = run(&["samples", &file, "--csv"]);
+    assert_eq!(ran.out.lines().count(), 32_001);
+}
+
+/// A record with one lead of 32,000 samples.
+fn long_lead() -> Vec<u8> {
+    const FIELDS: [u8; 24] = [
+        2, 2, 0, b'7', 0, 14, 0, 0, 25, 4, 0, 0xE8, 7, 3, 14, 26, 3, 0, 9, 26, 53, 255, 0, 0,
+    ];
+    let writing = judge::Writing {
+        section1: &FIELDS,
+        section2: &[],
+        version: 13,
+        flags: 0,
+        step: 1000,
+        interval: 1000,
+        order: 1,
+        firsts: &[1],
+        counts: &[32_000],
+        ids: &[1],
+        samples: &[-7; 32_000],
+    };
+    judge::write_record(&writing, 0, scp::RECORD_MAX).unwrap()
+}
+
 #[test]
 fn an_answer_that_cannot_be_written_is_told() {
-    let full = File::options().write(true).open("/dev/full").unwrap();
-    let output = tool().args(["open", "007.scp"]).stdout(full).output();
-    let ran = Ran::from(output.unwrap());
-    assert_eq!(ran.status, 2);
-    assert_eq!(
-        ran.err,
-        "tigmavresh: standard output: No space left on device\n"
-    );
+    for words in [
+        &["open", "007.scp"][..],
+        &["leads", "beat.scp"],
+        &["samples", "beat.scp"],
+        &["samples", "beat.scp", "--csv"],
+        &["samples", "beat.scp", "--json"],
+    ] {
+        let full = File::options().write(true).open("/dev/full").unwrap();
+        let output = tool().args(words).stdout(full).output();
+        let ran = Ran::from(output.unwrap());
+        assert_eq!(ran.status, 2, "{words:?}");
+        assert_eq!(
+            ran.err,
+            "tigmavresh: standard output: No space left on device\n"
+        );
+    }
 }
 
 #[test]
@@ -182,6 +248,12 @@ fn a_bad_command_line_is_told() {
         &["fields", "007.scp", "7.scp"],
         &["close", "007.scp"],
         &["open", "--all", "007.scp"],
+        &["leads"],
+        &["leads", "007.scp", "7.scp"],
+        &["leads", "--csv", "beat.scp"],
+        &["samples"],
+        &["samples", "--csv", "--json", "beat.scp"],
+        &["samples", "--all", "beat.scp"],
     ] {
         let ran = run(words);
         assert_eq!((ran.status, ran.out.as_str()), (2, ""), "{words:?}");
@@ -194,12 +266,28 @@ fn a_bad_command_line_is_told() {
 }
 
 #[test]
+fn a_place_is_a_number() {
+    for place in ["first", "-1", "1.5", "", "99999999999999999999"] {
+        let ran = run(&["samples", "beat.scp", &format!("--lead={place}")]);
+        assert_eq!((ran.status, ran.out.as_str()), (2, ""), "{place}");
+        assert!(ran.err.contains("--lead"), "{}", ran.err);
+    }
+    for place in ["0", "3", "18446744073709551615"] {
+        let ran = run(&["samples", "beat.scp", "--lead", place]);
+        assert_eq!(ran.status, 1, "{place}");
+        assert_eq!(ran.first_line(), "beat.scp: refused, number 10 (418 bytes)");
+    }
+}
+
+#[test]
 fn help_says_all_of_it() {
     let ran = run(&["--help"]);
     assert_eq!((ran.status, ran.err.as_str()), (0, ""));
     for words in [
         "open ",
         "fields ",
+        "leads ",
+        "samples ",
         "Exit status:",
         "  0  ",
         "  1  ",
@@ -208,7 +296,7 @@ fn help_says_all_of_it() {
     ] {
         assert!(ran.out.contains(words), "{words}\n{}", ran.out);
     }
-    for command in ["open", "fields"] {
+    for command in ["open", "fields", "leads", "samples"] {
         let ran = run(&[command, "--help"]);
         assert_eq!(ran.status, 0);
         assert!(

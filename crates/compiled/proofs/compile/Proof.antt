@@ -8,7 +8,7 @@ use Rattle.tables.specs.Default.{defaultTable}
 use Rattle.tables.specs.Section2.{tablesFrom, tablesIn}
 use Rattle.tables.proofs.Laws.{RightTables}
 use Rattle.tables.proofs.Default.{default-right}
-use Rattle.compiled.proofs.Laws.{length-tables, ready, own-tables}
+use Rattle.compiled.proofs.Laws.{length-tables, default-two, tables-two, ready, own-tables}
 use borrow.Author.Needs.{needs}
 use Rattle.compiled.proofs.compile.Statement.{statement}
 use Rattle.compiled.proofs.compile.Tie as tie
@@ -32,7 +32,8 @@ returns c =
     let put = none .before .before .before .before in
     let t1 = put .before .before in
     rw (sym (t1 .before .is-default .ensures) ∙ t1 .if1 .taken)
-    (ready (defaultTable ∷ []) 1 (put .put-default .last .0) (none .put-none .last .0) refl (omega arith) (rw default-right)
+    (ready (defaultTable ∷ []) 1 (put .put-default .last .0) (none .put-none .last .0) refl (omega arith) (omega arith) (rw default-right)
+    default-two
     (none .put-none .kept .0 ∙ put .put-default .kept .0 ∙ t1 .before .before .before .before .pre .0)
     (λ t h. let z : t ≡ 0 = omega arith in rw z (put .put-default .ensures))
     (none .put-none .ensures))
@@ -82,8 +83,10 @@ returns-2 c =
     rw (r .own, sym e)
     (ready (tablesFrom (a .s .now) (a .at + 2) n) n (put .put-tables .last .1 .1 .1 .0) (none .put-none2 .last .0)
     (length-tables (a .s .now) (a .at + 2) n)
+    (omega (arith, r .some))
     (omega (arith, r .most))
     (rw e (r .right))
+    (tables-two (a .s .now) (λ i. num .before .before .before .before .shared-slice-known .given i .fits) (a .at + 2) n)
     (none .put-none2 .kept .0 ∙ put .put-tables .kept .1 .1 .1 .0 ∙ start .pre .0)
     (put .put-tables .ensures)
     (none .put-none2 .ensures))

@@ -1,5 +1,10 @@
 -- The part is taken from the stream's own start, as many bytes as its count says.
+use Prim.Native.Nat.{_+_, _-_}
+use mathlib.Core.Path.{_≡_, ap}
+use native.Mathlib.Omega.{arith}
+use lib.ListN.{length, drop, length-take}
 use borrow.Author.Needs.{needs}
+use Rattle.wire.specs.Numbers.{part}
 use Rattle.entries.specs.Streams.{streamOf}
 use Rattle.entries.proofs.stream_of.Statement.{statement}
 use Rattle.entries.proofs.stream_of.Tie as tie
@@ -18,7 +23,13 @@ part-of-requires c κs = search needs
 
 returns : tie.Need-returns
 unfolding streamOf
-returns c = cc
+returns c =
+    let d = c .before in
+    let start = d .before .stream-start .result in
+    let end = start + d .stream-bytes .result in
+    let few = length-take (end - start) (drop start (d .before .before .before .args .s .now)) in
+    let e : length (c .part-of .result .now) ≡ length (part (d .before .before .before .args .s .now) start end) = ap length (c .part-of .ensures) in
+    (cc, omega (arith, d .stream-bytes .ensures .1))
 
 pub stream-of-spec : {M : Type 1} → statement M
 stream-of-spec =

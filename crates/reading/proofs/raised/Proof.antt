@@ -3,8 +3,8 @@ use Prim.Native.Nat.{ℕ, _+_, _-_, _*_}
 use mathlib.Core.Path.{ap, _∙_}
 use native.Mathlib.Omega.{arith}
 use borrow.Author.Needs.{needs}
-use Rattle.reading.specs.InnerCursor.{lowered}
-use Rattle.reading.proofs.Laws.{lowered-low, lowered-high}
+use Rattle.bits.specs.InnerRaised.{lower}
+use Rattle.reading.proofs.Laws.{lower-low, lower-high}
 use Rattle.reading.proofs.raised.Statement.{statement}
 use Rattle.reading.proofs.raised.Tie as tie
 
@@ -12,7 +12,7 @@ add-result : tie.Need-add-result
 add-result c = search needs
 
 returns : tie.Need-returns
-returns c = (λ w e. lowered-low w (c .before .args .n) (omega arith), omega arith)
+returns c = (λ w e. lower-low w (c .before .args .n) (omega arith), omega arith)
 
 add-result-2 : tie.Need-add-result-2
 add-result-2 c = search needs
@@ -27,7 +27,7 @@ returns-2 : tie.Need-returns-2
 returns-2 c =
     let n = c .before .args .n in (
       λ w e.
-          ap (λ (half : ℕ). lowered (131072 + n - 2 * half)) e ∙ lowered-high w n (omega arith) (omega arith) (omega arith),
+          ap (λ (half : ℕ). lower 131072 (131072 + n - 2 * half)) e ∙ lower-high w n (omega arith) (omega arith) (omega arith),
       omega arith,
     )
 

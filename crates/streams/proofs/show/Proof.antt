@@ -1,4 +1,8 @@
--- The data were judged to be right, and the room's type says its length; what is compiled into it is held.
+-- With no data the numbers are none, and none are held. Else the data were judged to be right, and the room's type says its length: what
+-- is compiled into it is held.
+use mathlib.Core.Path.{refl}
+use mathlib.Core.List.{[]}
+use mathlib.Core.Logic.{inl, inr}
 use native.Mathlib.Omega.{arith}
 use borrow.Author.Needs.{needs}
 use Rattle.wire.proofs.Tests.{kept}
@@ -7,6 +11,21 @@ use Rattle.streams.proofs.show.Tie as tie
 
 returns : tie.Need-returns
 returns c = search needs
+
+room-requires : tie.Need-room-requires
+room-requires c κs = search needs
+
+array-share-prefix-tab : tie.Need-array-share-prefix-tab
+array-share-prefix-tab c = search needs
+
+slice-aggregate-put-values : tie.Need-slice-aggregate-put-values
+slice-aggregate-put-values c = search needs
+
+put-values-requires : tie.Need-put-values-requires
+put-values-requires c κs = (([], inr (refl, refl)), omega arith)
+
+returns-2 : tie.Need-returns-2
+returns-2 c = search needs
 
 section2-right-requires : tie.Need-section2-right-requires
 section2-right-requires c κs = search needs
@@ -17,40 +36,41 @@ slice-aggregate-put c = search needs
 put-requires : tie.Need-put-requires
 put-requires c κs = search needs
 
-returns-2 : tie.Need-returns-2
-returns-2 c = search needs
-
-room-requires : tie.Need-room-requires
-room-requires c κs = search needs
+returns-3 : tie.Need-returns-3
+returns-3 c = search needs
 
 slice-aggregate-compile : tie.Need-slice-aggregate-compile
 slice-aggregate-compile c = search needs
 
 compile-requires : tie.Need-compile-requires
 compile-requires c κs =
-    (search needs, omega arith, kept (c .before .before .before .section2-right .ensures) (c .before .before .if2 .left))
+    (search needs, omega arith, kept (c .before .before .section2-right .ensures) (c .before .if3 .left))
 
-slice-aggregate-read-coded : tie.Need-slice-aggregate-read-coded
-slice-aggregate-read-coded c = search needs
+slice-aggregate-put-values-2 : tie.Need-slice-aggregate-put-values-2
+slice-aggregate-put-values-2 c = search needs
 
-read-coded-requires : tie.Need-read-coded-requires
-read-coded-requires c κs = search needs
+put-values-requires-2 : tie.Need-put-values-requires-2
+put-values-requires-2 c κs = ((_, inl (c .before .before .compile .ensures)), omega arith)
 
-returns-3 : tie.Need-returns-3
-returns-3 c = search needs
+returns-4 : tie.Need-returns-4
+returns-4 c = search needs
 
 pub show-spec : {M : Type 1} → statement M
 show-spec =
     tie.close
     (tie.spec
     returns
+    room-requires
+    array-share-prefix-tab
+    slice-aggregate-put-values
+    put-values-requires
+    returns-2
     section2-right-requires
     slice-aggregate-put
     put-requires
-    returns-2
-    room-requires
+    returns-3
     slice-aggregate-compile
     compile-requires
-    slice-aggregate-read-coded
-    read-coded-requires
-    returns-3)
+    slice-aggregate-put-values-2
+    put-values-requires-2
+    returns-4)

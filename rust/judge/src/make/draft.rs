@@ -217,7 +217,7 @@ fn scatter(rng: &mut Rng, plan: &mut Plan) {
 /// section.
 fn lengthen(rng: &mut Rng, plan: &mut Plan) {
     let room = bounds::RECORD.end().saturating_sub(plan.size());
-    if room.is_multiple_of(2) && room >= 16 && !plan.has(7) && rng.coin() {
+    if room % 2 == 0 && room >= 16 && !plan.has(7) && rng.coin() {
         plan.put(rng, 7, vec![0x5A; room - 16]);
     } else {
         plan.after.extend(vec![0xA5; room]);

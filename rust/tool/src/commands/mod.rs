@@ -1,4 +1,6 @@
 //! The commands, each in a module of its own.
 
 pub mod fields;
+pub mod leads;
 pub mod open;
+pub mod samples;

@@ -5,7 +5,10 @@
 //! pointer's index does.
 
 mod header;
+mod leads;
 mod sections;
+mod streams;
+mod tables;
 
 use scp::Refusal;
 
@@ -17,25 +20,41 @@ const NOTHING: &str = "nothing that this tool knows how to explain";
 /// The fewest bytes that a record has.
 const RECORD_MIN: u64 = 142;
 
+/// What is looked at: a record, how long it is, and the place of the lead that was asked for.
+pub struct Looked<'a> {
+    /// The bytes, of a record that is too long only as many as show it.
+    pub record: &'a [u8],
+    /// How long the whole is.
+    pub size: Size,
+    /// From 1; of no matter to rules 1 to 9.
+    pub place: usize,
+}
+
 /// What looks for all that breaks one rule.
-type Look = fn(&[u8], Size) -> Vec<String>;
+type Look = fn(&Looked) -> Vec<String>;
 
 /// For each rule, from 1, what looks for it.
-const ROWS: [Look; 6] = [
-    length,
-    |record, _| check(record),
-    |record, _| sections::zero(record),
-    |record, _| sections::places(record),
-    |record, _| sections::checks(record),
-    |record, _| header::fields(record),
+const ROWS: [Look; 14] = [
+    |looked| length(looked.record, looked.size),
+    |looked| check(looked.record),
+    |looked| sections::zero(looked.record),
+    |looked| sections::places(looked.record),
+    |looked| sections::checks(looked.record),
+    |looked| header::fields(looked.record),
+    |looked| tables::faults(looked.record),
+    |looked| leads::faults(looked.record),
+    |looked| leads::differences(looked.record),
+    |looked| leads::absent(looked.record, looked.place),
+    |_| vec!["the tool lent too little room, which is a fault of its own".to_string()],
+    |looked| streams::fault(looked.record, looked.place),
+    |looked| streams::fault(looked.record, looked.place),
+    |looked| streams::fault(looked.record, looked.place),
 ];
 
 /// What was found in a record that was refused, a line for each thing; at least one.
-pub fn found(record: &[u8], size: Size, refusal: Refusal) -> Vec<String> {
+pub fn found(looked: &Looked, refusal: Refusal) -> Vec<String> {
     let row = usize::from(refusal.number()).wrapping_sub(1);
-    let found = ROWS
-        .get(row)
-        .map_or_else(Vec::new, |look| look(record, size));
+    let found = ROWS.get(row).map_or_else(Vec::new, |look| look(looked));
     if found.is_empty() {
         return vec![NOTHING.to_string()];
     }
@@ -78,7 +97,7 @@ fn differs(stored: u64, checked: &[u8]) -> Option<String> {
         .then(|| format!("the check stored is 0x{stored:04X}, that of the bytes 0x{computed:04X}"))
 }
 
-/// The number in `width` bytes from byte `index` of the record, lowest byte first, if they are all there.
+/// The number in `width` bytes from byte `index`, lowest byte first, if they are all there.
 fn number(record: &[u8], index: u64, width: u64) -> Option<u64> {
     let bytes = part(record, index, width)?;
     let joined = bytes
@@ -88,7 +107,7 @@ fn number(record: &[u8], index: u64, width: u64) -> Option<u64> {
     Some(joined)
 }
 
-/// `length` bytes of the record from byte `index`, if they are all there.
+/// `length` bytes from byte `index`, if they are all there.
 fn part(record: &[u8], index: u64, length: u64) -> Option<&[u8]> {
     let start = usize::try_from(index.checked_sub(1)?).ok()?;
     let end = start.checked_add(usize::try_from(length).ok()?)?;
@@ -98,38 +117,63 @@ fn part(record: &[u8], index: u64, length: u64) -> Option<&[u8]> {
 #[cfg(test)]
 mod tests {
     use judge::make::{aimed, noise, Rng};
+    use scp::Refusal;
 
-    use super::{found, number, part, NOTHING};
+    use super::{found, number, part, Looked, NOTHING};
     use crate::input::Size;
+
+    fn looked(record: &[u8], place: usize) -> Looked<'_> {
+        Looked {
+            record,
+            size: Size::Exactly(record.len() as u64),
+            place,
+        }
+    }
 
     /// Whatever is refused is explained, by something that is wrong with it.
     #[test]
     fn every_refusal_is_explained() {
         let mut rng = Rng::new(1);
-        let mut explained = [0; 7];
-        for turn in 0..1400 {
-            let record = match (turn % 7) as u8 {
+        let mut explained = [0; 15];
+        let mut explain = |record: &[u8], place, refusal: Refusal| {
+            let lines = found(&looked(record, place), refusal);
+            assert_ne!(lines, [NOTHING], "{refusal}");
+            assert!(lines.iter().all(|line| !line.contains('\n')), "{lines:?}");
+            // a stream has one fault, and it is the library's
+            let words = match refusal.number() {
+                12 => "no value for",
+                13 => "sample",
+                14 => "bits are left",
+                _ => "",
+            };
+            assert!(lines[0].contains(words), "{refusal}: {lines:?}");
+            explained[refusal.number() as usize] += 1;
+        };
+        for turn in 0..3000 {
+            let record = match (turn % 15) as u8 {
                 0 => noise(&mut rng),
                 row => aimed(&mut rng, row),
             };
             if let Err(refusal) = scp::open(&record) {
-                let lines = found(&record, Size::Exactly(record.len() as u64), refusal);
-                assert_ne!(lines, [NOTHING], "turn {turn}, {refusal}");
-                explained[refusal.number() as usize] += 1;
+                explain(&record, 1, refusal);
+            }
+            let leads = scp::lead(&record, 1).map_or(0, |entry| entry.leads);
+            for place in 0..=leads + 1 {
+                if let Err(refusal) = scp::samples(&record, place) {
+                    explain(&record, place, refusal);
+                }
             }
         }
-        assert!(
-            explained[1..].iter().all(|&count| count > 0),
-            "{explained:?}"
-        );
+        let never: Vec<usize> = (1..15).filter(|&row| explained[row] == 0).collect();
+        assert_eq!(never, [11], "{explained:?}");
     }
 
     /// No bytes, and no number, upset it.
     #[test]
     fn any_bytes_may_be_looked_at() {
         let mut rng = Rng::new(2);
-        for turn in 0..1400 {
-            let mut record = aimed(&mut rng, 1 + (turn % 6) as u8);
+        for turn in 0..2800 {
+            let mut record = aimed(&mut rng, 1 + (turn % 14) as u8);
             for _ in 0..rng.below(4) {
                 let at = rng.below(record.len());
                 if let Some(byte) = record.get_mut(at) {
@@ -137,9 +181,10 @@ mod tests {
                 }
             }
             record.truncate(rng.below(2 * record.len() + 1));
-            let size = Size::Exactly(record.len() as u64);
-            for row in super::ROWS {
-                row(&record, size);
+            for place in [0, 1, 2, 33, usize::MAX] {
+                for row in super::ROWS {
+                    row(&looked(&record, place));
+                }
             }
         }
     }

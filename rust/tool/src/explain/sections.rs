@@ -230,6 +230,14 @@ pub fn one(record: &[u8]) -> Option<(u64, u64)> {
     Some((one.index, one.length))
 }
 
+/// The data of a section, without its header, if it is present.
+pub fn data(record: &[u8], id: u64) -> Option<&[u8]> {
+    let pointers = pointers(record);
+    let section = present(&pointers).find(|pointer| pointer.id == id)?;
+    let length = section.length.checked_sub(HEADER)?;
+    part(record, section.index + HEADER, length)
+}
+
 /// The pointers to sections other than Section 0 that are present.
 fn present(pointers: &[Pointer]) -> impl Iterator<Item = &Pointer> {
     pointers

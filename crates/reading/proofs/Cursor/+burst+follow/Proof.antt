@@ -1,7 +1,7 @@
 -- A form that was found is that of the structure that is matched: a value's ends the step, and a switch's is followed, which carries on
 -- as the rule does. The measure is twice the bits that are left, and one more for `burst`, which hands on at the same place.
 use Prim.Native.Nat.{ℕ, _+_, _-_, _*_, _<_}
-use mathlib.Core.Path.{refl, sym, ap, _∙_}
+use mathlib.Core.Path.{_≡_, refl, sym, ap, _∙_}
 use mathlib.Core.List.{List}
 use native.Mathlib.Nat.{pos-of-ne-zero}
 use native.Mathlib.Omega.{arith}
@@ -13,7 +13,7 @@ use Rattle.bits.specs.Bits.{bitsIn}
 use Rattle.tables.specs.declared.Structure.{Structure}
 use Rattle.compiled.specs.InnerForm.{Ready}
 use Rattle.reading.specs.InnerCursor.{Seen, foundIn}
-use Rattle.reading.proofs.Laws.{length-left, seen-left, found-none, read-none, FoundForm, found-form, read-form, read-on, matched-base, behind-onward, onward-of-from}
+use Rattle.reading.proofs.Laws.{length-left, seen-left, found-none, read-none, FoundForm, found-form, read-form, read-on, onward-of-from}
 use Rattle.reading.proofs.Cursor.burst.Reads as burst
 use Rattle.reading.proofs.Cursor.burst.Kinds as burst-kinds
 use Rattle.reading.proofs.Cursor.+burst+follow.Lts-burst as burst-lts
@@ -108,15 +108,13 @@ module _ (t : ℕ) where
   burst-returns c =
       let start = c .before .before .before .before .before .before .before .before .before .before .before in
       let a = start .args in
-      let bits = bitsIn (a .s .now) in
-      let bs = drop (a .self .at) bits in (
-        λ tables ready two.
+      let all : a .self .at + (length (a .s .now) * 8 - a .self .at) ≡ length (a .s .now) * 8 = omega arith in (
+        λ tables ready.
             let d = found (c .before .before .before .before) tables ready in
-            let small = matched-base tables two (a .self .table) bs (d .structure) (d .match) in
-            c .value-of .ensures .0 (d .structure) bits (d .form) (d .right) small (seen (c .before .before .before .before .before .before .before))
+            c .value-of .ensures .0 (d .structure) (bitsIn (a .s .now)) (d .form) (d .right) (d .small)
+            (seen (c .before .before .before .before .before .before .before))
             ∙ sym (read-form (ready .right) d (c .before .if1 .taken)),
-        behind-onward (a .self .at) (length (a .s .now) * 8) (a .self .table) (omega arith) (omega arith) (omega arith) (c .value-of .result)
-            (c .value-of .ensures .1),
+        rw all at (c .value-of .ensures .1),
       )
 
   burst-follow-requires : burst-lts.Need-follow-requires (burst-calls t) (burst-at t) burst.Post
@@ -133,9 +131,9 @@ module _ (t : ℕ) where
   burst-returns-2 : burst-lts.Need-returns-2 (burst-calls t) (burst-at t) burst.Post
   burst-returns-2 c =
       let a = c .before .before .before .before .before .before .before .before .before .before .before .args in (
-        λ tables ready two.
+        λ tables ready.
             let d = found (c .before .before .before .before) tables ready in
-            rw (read-on (ready .right) (a .self .at) (bitsIn (a .s .now)) d (c .before .if1 .left)) (c .follow .ensures .0 tables ready two),
+            rw (read-on (ready .right) (a .self .at) (bitsIn (a .s .now)) d (c .before .if1 .left)) (c .follow .ensures .0 tables ready),
         c .follow .ensures .1,
       )
 
@@ -143,7 +141,7 @@ module _ (t : ℕ) where
   burst-returns-3 c =
       let a = c .before .before .before .before .before .before .before .args in
       let bs = drop (a .self .at) (bitsIn (a .s .now)) in (
-        λ tables ready two.
+        λ tables ready.
             let told = sym (ap foundIn (c .enum-told .given .1)) ∙ c .before .before .find .ensures tables bs ready (seen (c .before .before .before)) in
             sym (read-none (length tables) tables (ready .right) (a .self .table) bs (found-none tables (a .self .table) bs (omega arith) told)),
         tt,
@@ -153,7 +151,7 @@ module _ (t : ℕ) where
   follow-add-burst c = omega arith
 
   follow-returns : follow-lts.Need-returns (burst-below t, burst.Post) (follow-at t) follow.Post
-  follow-returns c = (λ tables ready two. refl, omega arith)
+  follow-returns c = (λ tables ready. refl, omega arith)
 
   follow-sub-burst : follow-lts.Need-sub-burst (burst-below t, burst.Post) (follow-at t) follow.Post
   follow-sub-burst c = pos-of-ne-zero (c .if1 .left)

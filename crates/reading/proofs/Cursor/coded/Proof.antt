@@ -9,7 +9,7 @@ use Rattle.bits.specs.Bits.{bitsIn}
 use Rattle.tables.specs.declared.Structure.{Structure}
 use Rattle.compiled.specs.InnerForm.{Ready}
 use Rattle.reading.specs.Reading.{readCoded}
-use Rattle.reading.specs.InnerCursor.{TwoBytes, toldOf, Within, OnwardOf}
+use Rattle.reading.specs.InnerCursor.{toldOf, Within, OnwardOf}
 use Rattle.reading.proofs.Laws.{onward-from}
 use Rattle.reading.proofs.Cursor.coded.Statement.{statement}
 use Rattle.reading.proofs.Cursor.coded.Tie as tie
@@ -18,14 +18,14 @@ abbrev Inv-loop : tie.InvT-loop
 Inv-loop s tab c₀ c =
     Within (length s * 8) c
     × (c₀ .at ≤ c .at)
-    × ((tables : List (List Structure)) → Ready tables tab → TwoBytes tables
+    × ((tables : List (List Structure)) → Ready tables tab
     → readCoded tables (c .table) (drop (c .at) (bitsIn s)) ≡ readCoded tables (c₀ .table) (drop (c₀ .at) (bitsIn s)))
 
 abbrev μ-loop : tie.MeasureT-loop
 μ-loop s tab c₀ c = length s * 8 - c .at
 
 loop-holds : tie.Need-loop-holds Inv-loop μ-loop
-loop-holds c = (omega arith, omega arith, λ tables ready two. refl)
+loop-holds c = (omega arith, omega arith, λ tables ready. refl)
 
 burst-requires : tie.Need-burst-requires Inv-loop μ-loop
 burst-requires c κs = (c .before .before .before .pre .0, omega arith, c .loop .inv .0)
@@ -40,8 +40,8 @@ returns c =
     let said = c .before .before .before .burst .ensures in
     let n = length (a .s .now) * 8 in
     let is = c .before .r .given .1 in (
-      λ tables ready two.
-          sym (ap (toldOf tables (bitsIn (a .s .now))) is) ∙ said .0 tables ready two ∙ l .inv .2 tables ready two,
+      λ tables ready.
+          sym (ap (toldOf tables (bitsIn (a .s .now))) is) ∙ said .0 tables ready ∙ l .inv .2 tables ready,
       onward-from (a .self .at) (l .c .at) n (l .inv .1) (c .before .r .given .0 .0) (subst (OnwardOf (l .c .at) n) is (said .1)),
     )
 
@@ -67,8 +67,8 @@ loop-again c =
     let inv = c .before .before .before .before .loop .inv in (
       further c .1,
       omega (arith, further c .0),
-      λ tables ready two.
-          sym (ap (toldOf tables bits) (c .before .d .given .1)) ∙ said tables ready two ∙ inv .2 tables ready two,
+      λ tables ready.
+          sym (ap (toldOf tables bits) (c .before .d .given .1)) ∙ said tables ready ∙ inv .2 tables ready,
     )
 
 pub coded-spec : {M : Type 1} → statement M

@@ -1,0 +1,100 @@
+-- Each number is read in its section.
+use Prim.Native.Nat.{ℕ}
+use mathlib.Core.Path.{_≡_, ap, _∙_}
+use mathlib.Core.List.{List}
+use native.Mathlib.Omega.{arith}
+use borrow.Author.Needs.{needs}
+use Rattle.entries.specs.Leads.{flagsOf, firstSample, leadId, sampleCount}
+use Rattle.entries.specs.Streams.{stepOf, intervalOf}
+use Rattle.leads.specs.Leads.{countAt}
+use Rattle.leads.proofs.lead_at.Statement.{statement}
+use Rattle.leads.proofs.lead_at.Tie as tie
+
+-- the count is that of Section 3's entry
+count : (c : tie.After-sample-count) → c .sample-count .result ≡ countAt (c .before .before .before .before .before .before .before .before .before .args .rec .now) (c .before .before .before .before .before .before .before .before .before .args .k)
+count c = c .sample-count .ensures .0 ∙ ap (λ (s : List ℕ). sampleCount s (c .before .before .before .before .before .before .before .before .before .args .k)) (c .before .before .before .before .before .before .before .section-of .ensures)
+
+section-of-requires : tie.Need-section-of-requires
+section-of-requires c κs = search needs
+
+section-of-requires-2 : tie.Need-section-of-requires-2
+section-of-requires-2 c κs = search needs
+
+mul-byte : tie.Need-mul-byte
+mul-byte c = search needs
+
+add-byte : tie.Need-add-byte
+add-byte c = search needs
+
+byte-requires : tie.Need-byte-requires
+byte-requires c κs = search needs
+
+cast-t8 : tie.Need-cast-t8
+cast-t8 c = search needs
+
+byte-requires-2 : tie.Need-byte-requires-2
+byte-requires-2 c κs = search needs
+
+cast-t10 : tie.Need-cast-t10
+cast-t10 c = search needs
+
+number16-requires : tie.Need-number16-requires
+number16-requires c κs = search needs
+
+cast-t12 : tie.Need-cast-t12
+cast-t12 c = search needs
+
+number16-requires-2 : tie.Need-number16-requires-2
+number16-requires-2 c κs = search needs
+
+cast-t14 : tie.Need-cast-t14
+cast-t14 c = search needs
+
+first-sample-requires : tie.Need-first-sample-requires
+first-sample-requires c κs = search needs
+
+cast-t16 : tie.Need-cast-t16
+cast-t16 c = search needs
+
+sample-count-requires : tie.Need-sample-count-requires
+sample-count-requires c κs = search needs
+
+cast-t18 : tie.Need-cast-t18
+cast-t18 c = let e = count c in omega arith
+
+returns : tie.Need-returns
+returns c xs e =
+    let a = c .before .before .before .before .before .before .before .before .before .args in
+    let three = c .before .before .before .before .before .before .before .section-of .ensures in
+    let six = c .before .before .before .before .before .before .section-of2 .ensures in
+    rw (
+      c .before .before .before .before .before .byte .ensures .0 ∙ ap (λ (s : List ℕ). leadId s (a .k)) three,
+      c .before .before .before .before .byte2 .ensures .0 ∙ ap (λ (s : List ℕ). flagsOf s) three,
+      c .before .before .before .number16 .ensures .0 ∙ ap (λ (s : List ℕ). stepOf s) six,
+      c .before .before .number162 .ensures .0 ∙ ap (λ (s : List ℕ). intervalOf s) six,
+      c .before .first-sample .ensures .0 ∙ ap (λ (s : List ℕ). firstSample s (a .k)) three,
+      count c,
+      e,
+    )
+
+pub lead-at-spec : {M : Type 1} → statement M
+lead-at-spec =
+    tie.close
+    (tie.spec
+    section-of-requires
+    section-of-requires-2
+    mul-byte
+    add-byte
+    byte-requires
+    cast-t8
+    byte-requires-2
+    cast-t10
+    number16-requires
+    cast-t12
+    number16-requires-2
+    cast-t14
+    first-sample-requires
+    cast-t16
+    sample-count-requires
+    cast-t18
+    returns)

@@ -1,0 +1,108 @@
+use Prim.Native.Nat.{ℕ, _≤_}
+use mathlib.Core.Path.{_≡_, refl, sym, ap, _∙_}
+use mathlib.Core.Bool.{true}
+use mathlib.Core.List.{List, _++_}
+use native.Mathlib.Omega.{arith}
+use lib.IntN.{ℤ, pos}
+use lib.ListN.{length, take, drop, replicate}
+use lib.Seq.{length-take-le}
+use borrow.Author.Needs.{needs}
+use Rattle.wire.proofs.Tests.{kept, broken}
+use Rattle.entries.proofs.Laws.{interval-some}
+use Rattle.rules.specs.Rules.{hasBeat, beatCount}
+use Rattle.rules.proofs.Laws.{sound-beat}
+use Rattle.leads.specs.Leads.{streamTrace, residual}
+use Rattle.leads.specs.InnerLead.{Readable}
+use Rattle.leads.proofs.Laws.{zeros, without-beat}
+use Rattle.leads.proofs.lead_into.Statement.{statement}
+use Rattle.leads.proofs.lead_into.Tie as tie
+
+-- a beat was subtracted
+beaten : (c : tie.Else1) → hasBeat (c .before .before .before .before .args .rec .now) ≡ true
+beaten c = kept (c .before .has-beat .ensures) (c .if1 .left)
+
+-- and there is work space for it
+enough : (c : tie.After-beat-count) → c .beat-count .result ≤ length (c .before .before .before .before .before .args .work .now)
+enough c = let g = c .before .before .before .before .before .pre .1 .0 .beatRoom (beaten (c .before)) in omega (arith, c .beat-count .ensures .0)
+
+has-beat-requires : tie.Need-has-beat-requires
+has-beat-requires c κs = search needs
+
+stream-into-requires : tie.Need-stream-into-requires
+stream-into-requires c κs = search needs
+
+same-length : tie.Need-same-length
+same-length c = search needs
+
+returns : tie.Need-returns
+unfolding residual
+returns c =
+    let d = c .before .before .before .before .before .before .before in
+    let r = d .args .rec .now in
+    let none = broken (c .before .before .before .before .has-beat .ensures) (c .before .before .before .if1 .taken) in (
+      c .before .stream-into .ensures .0 ∙ ap (λ (n : ℕ). streamTrace r 6 n (d .args .k)) (d .pre .1 .1) ∙ without-beat r (d .args .k) none,
+      c .before .stream-into .ensures .1,
+      rw none refl,
+    )
+
+beat-count-requires : tie.Need-beat-count-requires
+beat-count-requires c κs =
+    let d = c .before .before .before .before in
+    interval-some _ _ (sound-beat (d .args .rec .now) (d .pre .1 .0 .beat) (beaten c) .0)
+
+slice-relend-prefix-with-beat : tie.Need-slice-relend-prefix-with-beat
+slice-relend-prefix-with-beat c = enough (c .before)
+
+slice-aggregate-with-beat : tie.Need-slice-aggregate-with-beat
+slice-aggregate-with-beat c = sym (length-take-le _ _ (enough (c .before .before)))
+
+with-beat-requires : tie.Need-with-beat-requires
+with-beat-requires c κs =
+    let d = c .before .before .before .before .before .before .before in
+    let e = length-take-le (c .before .before .beat-count .result) (d .args .work .now) (enough (c .before .before)) ∙ c .before .before .beat-count .ensures .0 in
+    let s = d .pre .1 .0 in
+    let whole : Readable (d .args .rec .now) (d .args .k) (length (take (c .before .before .beat-count .result) (d .args .work .now))) =
+    record {
+      tables = s .tables;
+      beat = s .beat;
+      place = s .place;
+      leads = s .leads;
+      count = s .count;
+      beatRoom = λ _. omega (arith, e);
+    } in
+    (d .pre .0, (whole, (d .pre .1 .1, e, beaten (c .before .before .before))))
+
+clear-requires : tie.Need-clear-requires
+clear-requires c κs = search needs
+
+same-length-2 : tie.Need-same-length-2
+same-length-2 c = search needs
+
+same-length-3 : tie.Need-same-length-3
+same-length-3 c = search needs
+
+returns-2 : tie.Need-returns-2
+returns-2 c =
+    let d = c .before .before .before .before .before .before .before .before .before .before .before .before .before in
+    let same : length (c .before .clear .last .0) ≡ length (d .args .work .now) = search needs in (
+      c .before .before .before .before .before .with-beat .ensures .0,
+      c .before .before .before .before .before .with-beat .ensures .1,
+      rw (beaten (c .before .before .before .before .before .before .before .before .before)) (zeros (c .before .clear .last .0) _ (c .before .clear .ensures) same),
+    )
+
+pub lead-into-spec : {M : Type 1} → statement M
+lead-into-spec =
+    tie.close
+    (tie.spec
+    has-beat-requires
+    stream-into-requires
+    same-length
+    returns
+    beat-count-requires
+    slice-relend-prefix-with-beat
+    slice-aggregate-with-beat
+    with-beat-requires
+    clear-requires
+    same-length-2
+    same-length-3
+    returns-2)

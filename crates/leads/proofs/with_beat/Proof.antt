@@ -1,0 +1,111 @@
+-- The first fault met decides: the beat's, the residual's, or that of the sums.
+use Prim.Native.Nat.{ℕ}
+use mathlib.Core.Path.{refl, ap, ap₂, _∙_}
+use mathlib.Core.List.{List}
+use native.Mathlib.Omega.{arith}
+use borrow.Author.Needs.{needs}
+use Rattle.entries.specs.Leads.{firstSample}
+use Rattle.entries.specs.Beat.{section4Right}
+use Rattle.rules.proofs.Laws.{sound-beat}
+use Rattle.beats.specs.Sums.{addBeat}
+use Rattle.leads.specs.Leads.{streamTrace, residual}
+use Rattle.leads.proofs.Laws.{beat-fault, residual-fault, beat-added}
+use Rattle.leads.proofs.with_beat.Statement.{statement}
+use Rattle.leads.proofs.with_beat.Tie as tie
+
+section-of-requires : tie.Need-section-of-requires
+section-of-requires c κs = search needs
+
+first-sample-requires : tie.Need-first-sample-requires
+first-sample-requires c κs = search needs
+
+stream-into-requires : tie.Need-stream-into-requires
+stream-into-requires c κs = search needs
+
+same-length : tie.Need-same-length
+same-length c = search needs
+
+returns : tie.Need-returns
+returns c =
+    let d = c .before .before .before .before .before .before .before .before in
+    let r = d .args .rec .now in
+    let k = d .args .k in
+    let beat = c .before .before .stream-into .ensures .0 ∙ ap (λ (n : ℕ). streamTrace r 5 n k) (d .pre .1 .1 .1) in
+    (beat-fault r k (d .pre .1 .1 .2) _ _ beat _ (c .if1 .taken), refl)
+
+stream-into-requires-2 : tie.Need-stream-into-requires-2
+stream-into-requires-2 c κs = search needs
+
+same-length-2 : tie.Need-same-length-2
+same-length-2 c = search needs
+
+same-length-3 : tie.Need-same-length-3
+same-length-3 c = search needs
+
+returns-2 : tie.Need-returns-2
+unfolding residual
+returns-2 c =
+    let d = c .before .before .before .before .before .before .before .before .before .before .before .before in
+    let r = d .args .rec .now in
+    let k = d .args .k in
+    let beat = c .before .before .before .before .before .before .stream-into .ensures .0 ∙ ap (λ (n : ℕ). streamTrace r 5 n k) (d .pre .1 .1 .1) in
+    let behind = c .before .before .stream-into2 .ensures .0 ∙ ap (λ (n : ℕ). streamTrace r 6 n k) (d .pre .1 .1 .0) in (
+      residual-fault r k (d .pre .1 .1 .2) _ _ beat (c .before .before .before .before .if1 .left) _ _ behind _ (c .if2 .taken),
+      c .before .before .stream-into2 .ensures .1,
+    )
+
+section-of-requires-2 : tie.Need-section-of-requires-2
+section-of-requires-2 c κs = search needs
+
+add-beat-requires : tie.Need-add-beat-requires
+add-beat-requires c κs =
+    let d = c .before .before .before .before .before .before .before .before .before .before .before .before .before .before .before in
+    let r = d .args .rec .now in
+    let zones = sound-beat r (d .pre .1 .0 .beat) (d .pre .1 .1 .2) .1 in
+    let beat = c .before .before .before .before .before .before .before .before .before .stream-into .ensures .1 ∙ d .pre .1 .1 .1 in
+    let room = c .before .before .before .before .before .stream-into2 .ensures .1 ∙ d .pre .1 .1 .0 in (
+      ap₂ (λ (n : ℕ) (s : List ℕ). section4Right n s) beat (c .before .before .section-of2 .ensures) ∙ zones,
+      c .before .before .before .before .before .before .before .before .before .before .before .first-sample .ensures .1,
+      omega (arith, room, d .pre .1 .0 .count),
+    )
+
+same-length-4 : tie.Need-same-length-4
+same-length-4 c = search needs
+
+same-length-5 : tie.Need-same-length-5
+same-length-5 c = search needs
+
+returns-3 : tie.Need-returns-3
+unfolding residual
+returns-3 c =
+    let d = c .before .before .before .before .before .before .before .before .before .before .before .before .before .before .before .before .before in
+    let r = d .args .rec .now in
+    let k = d .args .k in
+    let beat = c .before .before .before .before .before .before .before .before .before .before .before .stream-into .ensures .0 ∙ ap (λ (n : ℕ). streamTrace r 5 n k) (d .pre .1 .1 .1) in
+    let behind = c .before .before .before .before .before .before .before .stream-into2 .ensures .0 ∙ ap (λ (n : ℕ). streamTrace r 6 n k) (d .pre .1 .1 .0) in
+    let first = c .before .before .before .before .before .before .before .before .before .before .before .before .before .first-sample .ensures .0 ∙ ap (λ (s : List ℕ). firstSample s k) (c .before .before .before .before .before .before .before .before .before .before .before .before .before .before .section-of .ensures) in
+    let sums =
+    c .before .add-beat .ensures .0
+    ∙ ap₂ (λ (s : List ℕ) (n : ℕ). addBeat s (c .before .before .before .before .before .before .before .before .before .before .before .stream-into .last .1 .1 .1 .1 .0) n (c .before .before .before .before .before .before .before .stream-into2 .last .1 .1 .1 .1 .0)) (c .before .before .before .before .section-of2 .ensures) first in (
+      beat-added r k (d .pre .1 .1 .2) _ _ beat (c .before .before .before .before .before .before .before .before .before .if1 .left) _ _ behind (c .before .before .before .before .before .if2 .left) _ sums,
+      c .before .add-beat .ensures .1 ∙ c .before .before .before .before .before .before .before .stream-into2 .ensures .1,
+    )
+
+pub with-beat-spec : {M : Type 1} → statement M
+with-beat-spec =
+    tie.close
+    (tie.spec
+    section-of-requires
+    first-sample-requires
+    stream-into-requires
+    same-length
+    returns
+    stream-into-requires-2
+    same-length-2
+    same-length-3
+    returns-2
+    section-of-requires-2
+    add-beat-requires
+    same-length-4
+    same-length-5
+    returns-3)

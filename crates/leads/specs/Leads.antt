@@ -1,0 +1,56 @@
+-- Reading a lead (01, Leads and samples; 01, Refusal numbers 11 to 14), over the bytes r of a record; lead k counts from 0 here.
+use Prim.Native.Nat.{ℕ, _-_}
+use mathlib.Core.Bool.{Bool, not, _&&_, _||_, cond}
+use mathlib.Core.List.{List, []}
+use lib.Dec.{leb, eqb}
+use Rattle.wire.specs.Rules.{unless}
+use Rattle.pointers.specs.Pointers.{dataAt, present, sectionOf}
+use Rattle.bits.specs.Bits.{bitsIn}
+use Rattle.tables.specs.declared.Structure.{Structure}
+use Rattle.tables.specs.Section2.{tablesIn}
+use Rattle.entries.specs.Leads.{firstSample, sampleCount}
+use Rattle.entries.specs.Streams.{orderOf, streamOf}
+use Rattle.rules.specs.Rules.{leadsOf, hasBeat, beatCount, leadRefusal}
+use Rattle.samples.specs.Trace.{Trace, fault, afterTrace}
+use Rattle.traces.specs.Rebuilding.{rebuild}
+use Rattle.beats.specs.Sums.{addBeat}
+
+-- the record's code tables; none without Section 2
+unfoldable pub tablesOf : List ℕ → List (List Structure)
+tablesOf r = cond (present r 2) (tablesIn (sectionOf r 2) dataAt) []
+
+-- what lead k's stream in Section 5 or 6 is rebuilt to, by that section's difference order
+unfoldable pub streamTrace : List ℕ → ℕ → ℕ → ℕ → Trace
+streamTrace r section count k =
+    rebuild (tablesOf r) (orderOf (sectionOf r section)) count (bitsIn (streamOf (leadsOf r) (sectionOf r section) k))
+
+-- how many samples lead k has
+abbrev pub countAt : List ℕ → ℕ → ℕ
+countAt r k = sampleCount (sectionOf r 3) k
+
+-- the residual, or the whole lead where no beat was subtracted
+unfoldable pub residual : List ℕ → ℕ → Trace
+residual r k = streamTrace r 6 (countAt r k) k
+
+-- where a beat was subtracted its stream is read, then the residual, then sums are made
+unfoldable pub traceAt : List ℕ → ℕ → Trace
+traceAt r k =
+    cond (hasBeat r)
+    (afterTrace
+    (λ beat. afterTrace (λ xs. addBeat (sectionOf r 4) beat (firstSample (sectionOf r 3) k) xs) (residual r k))
+    (streamTrace r 5 (beatCount r) k))
+    (residual r k)
+
+-- 11: the output has room for the lead's samples, and the work space, where a beat was subtracted, for the beat's
+unfoldable pub roomRight : List ℕ → ℕ → ℕ → ℕ → Bool
+roomRight r k room work = leb (countAt r k) room && (not (hasBeat r) || leb (beatCount r) work)
+
+-- the smallest of 1 to 11 that applies, and 0 where none does
+unfoldable pub readRefusal : List ℕ → ℕ → ℕ → ℕ → ℕ
+readRefusal r place room work =
+    cond (eqb (leadRefusal r place) 0) (unless (roomRight r (place - 1) room work) 11 0) (leadRefusal r place)
+
+-- what reading the lead at a place comes to, with so much room and work space lent
+unfoldable pub readTrace : List ℕ → ℕ → ℕ → ℕ → Trace
+readTrace r place room work =
+    cond (eqb (readRefusal r place room work) 0) (traceAt r (place - 1)) (fault (readRefusal r place room work))

@@ -1,0 +1,289 @@
+// Reading a lead, every sample exact (01, Leads and samples; refusals 1 to 14). The beat's stream is read into the work space, the
+// lead's into room of its own, and the output is written when all is right: a refusal changes nothing but the work space.
+ghost use mathlib.Core.Path.{_≡_};
+ghost use mathlib.Core.Bool.{true, false};
+ghost use mathlib.Core.List.{List, _++_};
+ghost use Prim.Native.Nat.{ℕ, _+_, _-_, _<_, _≤_};
+ghost use lib.IntN.{ℤ, pos};
+ghost use lib.ListN.{length, take, drop, replicate};
+ghost use Rattle.rules.specs.Rules.{tablesRight, leadsOf, hasBeat, beatCount, leadRefusal};
+ghost use Rattle.compiled.specs.InnerForm.{Holding};
+ghost use Rattle.samples.specs.Trace.{rebuilt, fault, traceOf};
+ghost use Rattle.leads.specs.Leads.{tablesOf, countAt, streamTrace, traceAt, roomRight, readRefusal, readTrace};
+ghost use Rattle.leads.specs.InnerLead.{Readable, clearedIf};
+ghost use Rattle.leads.specs.Answers.{leadOf, leadAnswer, outAfter, workAfter, entryOf, entryAnswer};
+
+// What reading a lead answers beside its samples: 0 or a refusal number, and on a refusal nothing else.
+#[repr(C)]
+pub struct Lead {
+    pub refusal: u8,
+    pub id: u8,
+    pub flags: u8,
+    pub step: u16,
+    pub interval: u16,
+    pub first: u32,
+    pub count: u32,
+}
+
+// What Sections 3 and 6 say of a lead; on a refusal its number alone.
+#[repr(C)]
+pub struct Entry {
+    pub refusal: u8,
+    pub id: u8,
+    pub flags: u8,
+    pub order: u8,
+    pub step: u16,
+    pub interval: u16,
+    pub first: u32,
+    pub last: u32,
+    pub leads: u32,
+    pub bytes: u32,
+}
+
+// Room of its own: for the numbers of the code tables, and for the samples of a lead.
+fn table_room() -> [u32; 3080] {
+    [0; 3080]
+}
+
+fn sample_room() -> [i16; 65536] {
+    [0; 65536]
+}
+
+// All of the lent work space is made zeros.
+fn clear(work: &mut [i16])
+    ensures { λ _. ⌜ now (work .exit) ≡ replicate (length (now (work .exit))) (pos 0) ⌝ }
+{
+    let mut i = 0;
+    while i < work.len() {
+        work[i] = 0;
+        i += 1;
+    }
+}
+
+// The samples are copied to the front of the output.
+fn copy(xs: &[i16], out: &mut [i16])
+    requires { ⌜ length (now xs) ≤ length (now out) ⌝ }
+    ensures { λ _. ⌜ now (out .exit) ≡ now (xs .entry) ++ drop (length (now (xs .entry))) (now (out .entry)) ⌝ }
+{
+    let mut i = 0;
+    while i < xs.len() {
+        out[i] = xs[i];
+        i += 1;
+    }
+}
+
+// The record's code tables are taken apart into the room; answered is how many of its numbers hold them, 0 without Section 2.
+fn hold_tables(rec: &[u8], tab: &mut [u32]) -> usize
+    requires { ⌜ (length (now tab) ≡ 3080) × (tablesRight (now rec) ≡ true) ⌝ }
+    ensures { λ r. ⌜ (r ≤ 3080) × Holding (tablesOf (now (rec .entry))) (take r (now (tab .exit))) ⌝ }
+{
+    if !pointers::is_present(rec, 2) {
+        return 0;
+    }
+    compiled::compile(pointers::section_of(rec, 2), 16, 1, tab);
+    3080
+}
+
+// Lead k's stream in Section 5 or 6 is rebuilt into the room: 0, or the number of the fault met.
+fn stream_into(rec: &[u8], section: usize, k: usize, tab: &[u32], room: &mut [i16]) -> u8
+    requires { ⌜ Holding (tablesOf (now rec)) (now tab) × (section < 64) × (k < leadsOf (now rec)) ⌝ }
+    ensures { λ r. ⌜ (traceOf r (now (room .exit)) ≡ streamTrace (now (rec .entry)) section (length (now (room .entry))) k) × (length (now (room .exit)) ≡ length (now (room .entry))) ⌝ }
+{
+    let s = pointers::section_of(rec, section);
+    let stream = entries::stream_of(s, rules::leads_of(rec), k);
+    traces::rebuild(stream, tab, wire::byte(s, 20), room)
+}
+
+// The beat is rebuilt, then the residual in the room, and the beat is added to it.
+fn with_beat(rec: &[u8], k: usize, tab: &[u32], room: &mut [i16], beat: &mut [i16]) -> u8
+    requires { ⌜ Holding (tablesOf (now rec)) (now tab) ⌝ }
+    requires { ⌜ Readable (now rec) k (length (now beat)) ⌝ }
+    requires { ⌜ (length (now room) ≡ countAt (now rec) k) × (length (now beat) ≡ beatCount (now rec)) × (hasBeat (now rec) ≡ true) ⌝ }
+    ensures { λ r. ⌜ (traceOf r (now (room .exit)) ≡ traceAt (now (rec .entry)) k) × (length (now (room .exit)) ≡ length (now (room .entry))) ⌝ }
+{
+    let first = entries::first_sample(pointers::section_of(rec, 3), k);
+    let fault = stream_into(rec, 5, k, tab, beat);
+    if fault != 0 {
+        return fault;
+    }
+    let fault = stream_into(rec, 6, k, tab, room);
+    if fault != 0 {
+        return fault;
+    }
+    beats::add_beat(pointers::section_of(rec, 4), beat, first, room)
+}
+
+// Lead k is rebuilt in the room. Where a beat was subtracted it is rebuilt in the work space, all of which is then cleared.
+fn lead_into(rec: &[u8], k: usize, tab: &[u32], room: &mut [i16], work: &mut [i16]) -> u8
+    requires { ⌜ Holding (tablesOf (now rec)) (now tab) ⌝ }
+    requires { ⌜ Readable (now rec) k (length (now work)) ⌝ }
+    requires { ⌜ length (now room) ≡ countAt (now rec) k ⌝ }
+    ensures { λ r. ⌜ (traceOf r (now (room .exit)) ≡ traceAt (now (rec .entry)) k) × (length (now (room .exit)) ≡ length (now (room .entry))) × (now (work .exit) ≡ clearedIf (hasBeat (now (rec .entry))) (now (work .entry))) ⌝ }
+{
+    if !rules::has_beat(rec) {
+        return stream_into(rec, 6, k, tab, room);
+    }
+    let n = rules::beat_count(rec);
+    let fault = with_beat(rec, k, tab, room, &mut work[..n]);
+    clear(work);
+    fault
+}
+
+// Lead k is rebuilt in the room, and copied to the output if nothing was refused.
+fn lead_out(
+    rec: &[u8],
+    k: usize,
+    tab: &[u32],
+    room: &mut [i16],
+    out: &mut [i16],
+    work: &mut [i16],
+) -> u8
+    requires { ⌜ Holding (tablesOf (now rec)) (now tab) ⌝ }
+    requires { ⌜ Readable (now rec) k (length (now work)) ⌝ }
+    requires { ⌜ (length (now room) ≡ countAt (now rec) k) × (countAt (now rec) k ≤ length (now out)) ⌝ }
+    ensures { λ r. ⌜ ((xs : List ℤ) × (traceOf r xs ≡ traceAt (now (rec .entry)) k)) × (now (out .exit) ≡ outAfter (traceAt (now (rec .entry)) k) (now (out .entry))) × (now (work .exit) ≡ clearedIf (hasBeat (now (rec .entry))) (now (work .entry))) ⌝ }
+{
+    let fault = lead_into(rec, k, tab, room, work);
+    if fault != 0 {
+        return fault;
+    }
+    copy(room, out);
+    0
+}
+
+// Lead k is read by the record's tables, in room of its own.
+fn read_into(rec: &[u8], k: usize, out: &mut [i16], work: &mut [i16]) -> u8
+    requires { ⌜ Readable (now rec) k (length (now work)) ⌝ }
+    requires { ⌜ countAt (now rec) k ≤ length (now out) ⌝ }
+    ensures { λ r. ⌜ ((xs : List ℤ) × (traceOf r xs ≡ traceAt (now (rec .entry)) k)) × (now (out .exit) ≡ outAfter (traceAt (now (rec .entry)) k) (now (out .entry))) × (now (work .exit) ≡ clearedIf (hasBeat (now (rec .entry))) (now (work .entry))) ⌝ }
+{
+    let mut tab = table_room();
+    let held = hold_tables(rec, &mut tab);
+    let n = entries::sample_count(pointers::section_of(rec, 3), k);
+    let mut room = sample_room();
+    lead_out(rec, k, &tab[..held], &mut room[..n], out, work)
+}
+
+// The room lent is enough for the lead at a place.
+fn room_right(rec: &[u8], place: usize, out: usize, work: usize) -> bool
+    requires { ⌜ leadRefusal (now rec) place ≡ 0 ⌝ }
+    ensures { λ r. ⌜ r ≡ roomRight (now (rec .entry)) (place - 1) out work ⌝ }
+{
+    if out < entries::sample_count(pointers::section_of(rec, 3), place - 1) {
+        return false;
+    }
+    if !rules::has_beat(rec) {
+        return true;
+    }
+    if work < rules::beat_count(rec) {
+        return false;
+    }
+    true
+}
+
+// The smallest of 1 to 11 that applies, or 0.
+fn read_refusal(rec: &[u8], place: usize, out: usize, work: usize) -> u8
+    ensures { λ r. ⌜ r ≡ readRefusal (now (rec .entry)) place out work ⌝ }
+{
+    let refusal = rules::lead_refusal(rec, place);
+    if refusal != 0 {
+        return refusal;
+    }
+    if !room_right(rec, place, out, work) {
+        return 11;
+    }
+    0
+}
+
+// A refusal and nothing else.
+fn refused(refusal: u8) -> Lead
+    ensures { λ r. ⌜ ((bytes : List ℕ) (k : ℕ) → r ≡ leadOf bytes k (fault refusal)) ⌝ }
+{
+    Lead {
+        refusal,
+        id: 0,
+        flags: 0,
+        step: 0,
+        interval: 0,
+        first: 0,
+        count: 0,
+    }
+}
+
+// What is answered beside lead k's samples.
+fn lead_at(rec: &[u8], k: usize) -> Lead
+    requires { ⌜ (k < 256) × (countAt (now rec) k ≤ 65536) ⌝ }
+    ensures { λ r. ⌜ ((xs : List ℤ) → length xs ≡ countAt (now (rec .entry)) k → r ≡ leadOf (now (rec .entry)) k (rebuilt xs)) ⌝ }
+{
+    let s = pointers::section_of(rec, 3);
+    let t = pointers::section_of(rec, 6);
+    Lead {
+        refusal: 0,
+        id: wire::byte(s, 26 + 9 * k) as u8,
+        flags: wire::byte(s, 17) as u8,
+        step: wire::number16(t, 16) as u16,
+        interval: wire::number16(t, 18) as u16,
+        first: entries::first_sample(s, k) as u32,
+        count: entries::sample_count(s, k) as u32,
+    }
+}
+
+// What Sections 3 and 6 say of lead k.
+fn entry_at(rec: &[u8], k: usize) -> Entry
+    requires { ⌜ k < 256 ⌝ }
+    ensures { λ r. ⌜ r ≡ entryOf (now (rec .entry)) k 0 ⌝ }
+{
+    let s = pointers::section_of(rec, 3);
+    let t = pointers::section_of(rec, 6);
+    Entry {
+        refusal: 0,
+        id: wire::byte(s, 26 + 9 * k) as u8,
+        flags: wire::byte(s, 17) as u8,
+        order: wire::byte(t, 20) as u8,
+        step: wire::number16(t, 16) as u16,
+        interval: wire::number16(t, 18) as u16,
+        first: entries::first_sample(s, k) as u32,
+        last: entries::last_sample(s, k) as u32,
+        leads: rules::leads_of(rec) as u32,
+        bytes: entries::stream_bytes(t, k) as u32,
+    }
+}
+
+// The lead at a place, from 1: its samples to the front of the output.
+pub fn read_lead(rec: &[u8], place: usize, out: &mut [i16], work: &mut [i16]) -> Lead
+    ensures answer { λ r. ⌜ r ≡ leadAnswer (now (rec .entry)) place (length (now (out .entry))) (length (now (work .entry))) ⌝ }
+    ensures samples { λ r. ⌜ now (out .exit) ≡ outAfter (readTrace (now (rec .entry)) place (length (now (out .entry))) (length (now (work .entry)))) (now (out .entry)) ⌝ }
+    ensures cleared { λ r. ⌜ now (work .exit) ≡ workAfter (now (rec .entry)) place (length (now (out .entry))) (now (work .entry)) ⌝ }
+{
+    let refusal = read_refusal(rec, place, out.len(), work.len());
+    if refusal != 0 {
+        return refused(refusal);
+    }
+    let fault = read_into(rec, place - 1, out, work);
+    if fault != 0 {
+        return refused(fault);
+    }
+    lead_at(rec, place - 1)
+}
+
+// The entry of the lead at a place, from 1: judged as reading it is, no stream read.
+pub fn lead_entry(rec: &[u8], place: usize) -> Entry
+    ensures { λ r. ⌜ r ≡ entryAnswer (now (rec .entry)) place ⌝ }
+{
+    let refusal = rules::lead_refusal(rec, place);
+    if refusal != 0 {
+        return Entry {
+            refusal,
+            id: 0,
+            flags: 0,
+            order: 0,
+            step: 0,
+            interval: 0,
+            first: 0,
+            last: 0,
+            leads: 0,
+            bytes: 0,
+        };
+    }
+    entry_at(rec, place - 1)
+}

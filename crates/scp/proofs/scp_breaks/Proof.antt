@@ -1,0 +1,19 @@
+-- The answer, as a number.
+use mathlib.Core.Path.{sym, ap, _∙_}
+use mathlib.Core.Bool.{Bool, not}
+use borrow.Author.Needs.{needs}
+use Rattle.scp.specs.Answers.{oneIf}
+use Rattle.scp.proofs.scp_breaks.Statement.{statement}
+use Rattle.scp.proofs.scp_breaks.Tie as tie
+
+keeps-requires : tie.Need-keeps-requires
+keeps-requires c κs = search needs
+
+returns : tie.Need-returns
+returns c = sym (ap (λ (b : Bool). oneIf (not b)) (sym (c .before .keeps .ensures) ∙ c .if1 .taken))
+
+returns-2 : tie.Need-returns-2
+returns-2 c = sym (ap (λ (b : Bool). oneIf (not b)) (sym (c .before .keeps .ensures) ∙ c .if1 .left))
+
+pub scp-breaks-spec : {M : Type 1} → statement M
+scp-breaks-spec = tie.close (tie.spec keeps-requires returns returns-2)

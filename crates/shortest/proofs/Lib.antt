@@ -1,0 +1,6 @@
+pub mod Laws
+pub mod Bridge
+pub mod Plain
+pub mod Forms
+pub mod Existence
+pub mod Certificate

@@ -1,0 +1,1 @@
+// The shortest stream, shown from the rules of the search. No code.

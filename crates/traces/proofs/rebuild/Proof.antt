@@ -1,0 +1,206 @@
+-- What the stream is rebuilt to is the samples that stand in the room, before what is rebuilt from the cursor on.
+use Prim.Native.Nat.{suc, _+_, _-_, _*_, _≤_, _<_}
+use mathlib.Core.Path.{_≡_, refl, sym, subst, _∙_}
+use mathlib.Core.List.{List}
+use native.Mathlib.Omega.{arith}
+use borrow.Author.Needs.{needs}
+use lib.ListN.{length, take, drop, length-set}
+use mir.Syntax.{w16}
+use mir.Val.{toZ, ofZ}
+use Rattle.bits.specs.Bits.{bitsIn}
+use Rattle.bits.specs.InnerRaised.{lower}
+use Rattle.samples.specs.InnerTrace.{before}
+use Rattle.tables.specs.declared.Structure.{Structure}
+use Rattle.compiled.specs.InnerForm.{Holding}
+use Rattle.reading.proofs.Laws.{length-left}
+use Rattle.traces.specs.Rebuilding.{rebuildFrom, rebuild}
+use Rattle.traces.specs.InnerTrace.{stepped, Stepped}
+use Rattle.traces.specs.declared.Step.{Step}
+use Rattle.traces.specs.declared.Step.the-variants.{Sample, Fault}
+use Rattle.traces.proofs.Laws.{room-start, room-turn, room-fault, room-end, room-over}
+use Rattle.traces.proofs.rebuild.Statement.{statement}
+use Rattle.traces.proofs.rebuild.Tie as tie
+
+abbrev Inv-loop : tie.InvT-loop
+Inv-loop s tab order room₀ n c₀ last₀ other₀ j₀ room c last other j =
+    (j ≤ n) × (length room ≡ length room₀) × (c .at ≤ length s * 8) × (last < 65536) × (other < 65536)
+    × ((tables : List (List Structure)) → Holding tables tab
+    → rebuild tables order n (bitsIn s)
+    ≡ before (take j room) (rebuildFrom tables order (n - j) j (lower 32768 last) (lower 32768 other) (c .table) (drop (c .at) (bitsIn s))))
+
+abbrev μ-loop : tie.MeasureT-loop
+μ-loop s tab order room₀ n c₀ last₀ other₀ j₀ room c last other j = n - j
+
+new-requires : tie.Need-new-requires Inv-loop μ-loop
+new-requires c κs = search needs
+
+loop-holds : tie.Need-loop-holds Inv-loop μ-loop
+loop-holds c =
+    let a = c .before .before .before .args in (
+      omega arith,
+      refl,
+      omega arith,
+      omega arith,
+      omega arith,
+      λ tables held.
+          room-start tables (a .order) (length (a .room .now)) (c .new .result .at) (c .new .result .table) (bitsIn (a .s .now))
+          (c .new .ensures .0)
+          (c .new .ensures .1),
+    )
+
+next-sample-requires : tie.Need-next-sample-requires Inv-loop μ-loop
+next-sample-requires c κs = search needs
+
+enum-known-x : tie.Need-enum-known-x Inv-loop μ-loop
+enum-known-x c = search needs
+
+-- what the stream is rebuilt to is what the step came to, behind the samples in the room
+step : (c : tie.After-next-sample Inv-loop μ-loop) →
+    let a = c .before .before .before .before .before .before .args in
+    let l = c .before .before .loop in
+    let n = length (a .room .now) in
+    (r : Step) → c .next-sample .result ≡ r → (tables : List (List Structure)) → Holding tables (a .tab .now)
+    → rebuild tables (a .order) n (bitsIn (a .s .now))
+    ≡ before (take (l .j) (l .room))
+    (stepped (bitsIn (a .s .now)) (λ x. rebuildFrom tables (a .order) (n - (l .j + 1)) (l .j + 1) x (lower 32768 (l .last))) r)
+step c r is tables held =
+    let l = c .before .before .loop in
+    let n = length (c .before .before .before .before .before .before .args .room .now) in
+    let e : n - l .j ≡ suc (n - (l .j + 1)) = omega (arith, c .before) in
+    rw (← is, c .next-sample .ensures .0 tables (n - (l .j + 1)) held) (rw e at (l .inv .5 tables held))
+
+-- the sample that a step gave is of 16 bits, and its cursor is within the stream
+given : (c : tie.After-known-told Inv-loop μ-loop) →
+    let bits = length (c .before .before .before .before .before .before .before .before .before .args .s .now) * 8 in
+    (c .before .x .given .0 .0 < 65536) × (c .before .x .given .0 .1 .0 .at ≤ bits)
+given c =
+    let bits = length (c .before .before .before .before .before .before .before .before .before .args .s .now) * 8 in
+    subst (Stepped bits) (c .before .x .given .1) (c .before .before .before .next-sample .ensures .1)
+
+lowered-requires : tie.Need-lowered-requires Inv-loop μ-loop
+lowered-requires c κs = given c .0
+
+mul-t16 : tie.Need-mul-t16 Inv-loop μ-loop
+mul-t16 c = omega arith
+
+slice-set-from-room : tie.Need-slice-set-from-room Inv-loop μ-loop
+slice-set-from-room c = omega arith
+
+add-j : tie.Need-add-j Inv-loop μ-loop
+add-j c = omega arith
+
+loop-less : tie.Need-loop-less Inv-loop μ-loop
+loop-less c = omega arith
+
+loop-again : tie.Need-loop-again Inv-loop μ-loop
+loop-again c =
+    let told = c .before .before .before .before in
+    let a = told .before .before .before .before .before .before .args in
+    let l = told .before .before .loop in
+    let left = length (a .room .now) - (l .j + 1) in
+    let x = lower 32768 (c .before .before .x .given .0 .0) in
+    let d = c .before .before .x .given .0 .1 .0 in
+    let same : toZ w16 (ofZ w16 (c .lowered .result)) ≡ c .lowered .result = search needs in
+    rw (same, c .lowered .ensures) (
+      omega (arith, told .before),
+      length-set (l .room) (l .j) x ∙ l .inv .1,
+      given (c .before) .1,
+      given (c .before) .0,
+      l .inv .3,
+      λ tables held.
+          room-turn
+          (rebuildFrom tables (a .order) left (l .j + 1) x (lower 32768 (l .last)) (d .table) (drop (d .at) (bitsIn (a .s .now))))
+          (l .room)
+          (l .j)
+          x
+          (omega (arith, told .before))
+          (step told (Sample (c .before .before .x .given .0 .0) d) (c .before .before .x .given .1) tables held),
+    )
+
+enum-known-number : tie.Need-enum-known-number Inv-loop μ-loop
+enum-known-number c = search needs
+
+same-length : tie.Need-same-length Inv-loop μ-loop
+same-length c = omega arith
+
+returns : tie.Need-returns Inv-loop μ-loop
+returns c =
+    let told = c .before .before .before in
+    let a = told .before .before .before .before .before .before .args in
+    let l = told .before .before .loop in
+    let number = c .before .number .given .0 .0 in
+    let is = c .before .number .given .1 in (
+      λ tables held.
+          room-fault number (l .room) (subst (Stepped (length (a .s .now) * 8)) is (told .next-sample .ensures .1))
+          ∙ sym (step told (Fault number) is tables held),
+      l .inv .1,
+    )
+
+mul-if1 : tie.Need-mul-if1 Inv-loop μ-loop
+mul-if1 c = omega arith
+
+sub-if1 : tie.Need-sub-if1 Inv-loop μ-loop
+sub-if1 c = omega arith
+
+same-length-2 : tie.Need-same-length-2 Inv-loop μ-loop
+same-length-2 c = omega arith
+
+returns-2 : tie.Need-returns-2 Inv-loop μ-loop
+returns-2 c =
+    let a = c .before .before .before .before .before .before .before .args in
+    let l = c .before .before .before .loop in
+    let few = length-left (a .s .now) (l .c .at) in (
+      λ tables held.
+          room-end tables (a .order) (length (a .room .now) - l .j) (l .j) (lower 32768 (l .last)) (lower 32768 (l .other)) (l .c .table)
+          (drop (l .c .at) (bitsIn (a .s .now)))
+          (omega arith)
+          (l .room)
+          (omega (arith, few))
+          (omega arith)
+          ∙ sym (l .inv .5 tables held),
+      l .inv .1,
+    )
+
+same-length-3 : tie.Need-same-length-3 Inv-loop μ-loop
+same-length-3 c = omega arith
+
+returns-3 : tie.Need-returns-3 Inv-loop μ-loop
+returns-3 c =
+    let a = c .before .before .before .before .before .before .before .args in
+    let l = c .before .before .before .loop in
+    let many = length-left (a .s .now) (l .c .at) in (
+      λ tables held.
+          room-over tables (a .order) (length (a .room .now) - l .j) (l .j) (lower 32768 (l .last)) (lower 32768 (l .other)) (l .c .table)
+          (drop (l .c .at) (bitsIn (a .s .now)))
+          (omega arith)
+          (l .room)
+          (omega (arith, many))
+          ∙ sym (l .inv .5 tables held),
+      l .inv .1,
+    )
+
+pub rebuild-spec : {M : Type 1} → statement M
+rebuild-spec =
+    tie.close
+    (tie.spec
+    Inv-loop
+    μ-loop
+    new-requires
+    loop-holds
+    next-sample-requires
+    enum-known-x
+    lowered-requires
+    mul-t16
+    slice-set-from-room
+    add-j
+    loop-less
+    loop-again
+    enum-known-number
+    same-length
+    returns
+    mul-if1
+    sub-if1
+    same-length-2
+    returns-2
+    same-length-3
+    returns-3)

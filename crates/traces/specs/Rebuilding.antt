@@ -1,0 +1,30 @@
+-- What a stream of bits is rebuilt to (01, Leads and samples; 01, Refusal numbers 12 to 14): value after value is read, a sample is made
+-- of each, and the first fault met decides.
+use Prim.Native.Nat.{ℕ, zero, suc, _+_}
+use mathlib.Core.Bool.{cond}
+use mathlib.Core.List.{List, []}
+use lib.Dec.{ltb}
+use lib.IntN.{ℤ, pos}
+use lib.ListN.{length}
+use Rattle.tables.specs.declared.Structure.{Structure}
+use Rattle.reading.specs.Reading.{Next, gave, stuck, readNext}
+use Rattle.samples.specs.Differences.{sampleOf}
+use Rattle.samples.specs.Trace.{Trace, rebuilt, fault, afterSample}
+
+-- a value is read; 12 where the next code matches nothing or runs out
+abbrev pub afterNext : (ℤ → ℕ → List ℕ → Trace) → Next → Trace
+afterNext goOn (gave v table bs) = goOn v table bs
+afterNext goOn stuck = fault 12
+
+-- so many samples from a place on, behind the samples `last` and, before that, `other`; fewer than 8 bits left behind the last sample
+-- are ignored, 8 or more are 14
+unfoldable pub rebuildFrom : List (List Structure) → ℕ → ℕ → ℕ → ℤ → ℤ → ℕ → List ℕ → Trace
+rebuildFrom tables order zero place last other table bs = cond (ltb (length bs) 8) (rebuilt []) (fault 14)
+rebuildFrom tables order (suc left) place last other table bs =
+    afterNext
+    (λ v next rest. afterSample (λ x. rebuildFrom tables order left (place + 1) x last next rest) (sampleOf order place v last other))
+    (readNext tables table bs)
+
+-- a lead's or a beat's samples, by its difference order and how many there are: each starts in table 1
+unfoldable pub rebuild : List (List Structure) → ℕ → ℕ → List ℕ → Trace
+rebuild tables order count bs = rebuildFrom tables order count 0 (pos 0) (pos 0) 1 bs

@@ -1,0 +1,80 @@
+// Rebuilding a lead or a beat from its stream (01, Leads and samples; refusals 12 to 14): each code is read once, into room whose
+// contents count only where nothing was refused.
+ghost use mathlib.Core.Path.{_≡_};
+ghost use mathlib.Core.List.{List};
+ghost use Prim.Native.Nat.{ℕ, suc, _+_, _*_, _<_, _≤_};
+ghost use lib.ListN.{length, drop};
+ghost use Rattle.bits.specs.Bits.{bitsIn};
+ghost use Rattle.bits.specs.InnerRaised.{lower};
+ghost use Rattle.samples.specs.Trace.{traceOf};
+ghost use Rattle.tables.specs.declared.Structure.{Structure};
+ghost use Rattle.compiled.specs.InnerForm.{Holding, Held};
+ghost use Rattle.traces.specs.Rebuilding.{rebuildFrom, rebuild};
+ghost use Rattle.traces.specs.InnerTrace.{stepped, Stepped};
+use reading::Cursor;
+use reading::Read;
+
+// What a step answers: a sample, 32,768 added, and the cursor behind its code; or the number of the fault met.
+pub enum Step {
+    Sample(usize, Cursor),
+    Fault(u8),
+}
+
+// The sample at a place, behind the samples `last` and `other`: 12 where there is no value, 13 where it is outside 16 bits.
+fn next_sample(
+    c: Cursor,
+    s: &[u8],
+    tab: &[u32],
+    order: usize,
+    place: usize,
+    last: usize,
+    other: usize,
+) -> Step
+    requires { ⌜ Held (now tab) × (length (now s) ≤ 1048576) × (last < 65536) × (other < 65536) ⌝ }
+    ensures told { λ r. ⌜ ((tables : List (List Structure)) (left : ℕ) → Holding tables (now (tab .entry)) → stepped (bitsIn (now (s .entry))) (λ x. rebuildFrom tables order left (place + 1) x (lower 32768 last)) r ≡ rebuildFrom tables order (suc left) place (lower 32768 last) (lower 32768 other) (c .table) (drop (c .at) (bitsIn (now (s .entry))))) ⌝ }
+    ensures fits { λ r. ⌜ Stepped (length (now (s .entry)) * 8) r ⌝ }
+{
+    match c.value(s, tab) {
+        Read::Value(v, d) => {
+            let y = samples::sample_of(order, place, v, last, other);
+            if y < 196608 {
+                return Step::Fault(13);
+            }
+            if 262144 <= y {
+                return Step::Fault(13);
+            }
+            Step::Sample(y - 196608, d)
+        }
+        Read::Stuck => Step::Fault(12),
+    }
+}
+
+// The room is filled with the samples that a stream is rebuilt to: 0, or the number of the first fault met.
+pub fn rebuild(s: &[u8], tab: &[u32], order: usize, room: &mut [i16]) -> u8
+    requires { ⌜ Held (now tab) × (length (now s) ≤ 1048576) ⌝ }
+    ensures { λ r. ⌜ ((tables : List (List Structure)) → Holding tables (now (tab .entry)) → traceOf r (now (room .exit)) ≡ rebuild tables order (length (now (room .entry))) (bitsIn (now (s .entry)))) × (length (now (room .exit)) ≡ length (now (room .entry))) ⌝ }
+{
+    let n = room.len();
+    let mut c = Cursor::new();
+    let mut last = 32768;
+    let mut other = 32768;
+    let mut j = 0;
+    while j < n {
+        match next_sample(c, s, tab, order, j, last, other) {
+            Step::Sample(x, d) => {
+                room[j] = samples::lowered(x);
+                other = last;
+                last = x;
+                c = d;
+                j += 1;
+            }
+            Step::Fault(number) => {
+                return number;
+            }
+        }
+    }
+    if s.len() * 8 - c.at < 8 {
+        return 0;
+    }
+    14
+}

@@ -1,0 +1,296 @@
+//! The calls on leads, held against the judge's: every place, and output and work space of every kind of length.
+
+use std::ops::RangeInclusive;
+
+use judge::make::Rng;
+use judge::Refused;
+use scp::raw;
+
+use crate::calls::{hold, number, same, Difference};
+use crate::draft;
+use crate::lent::Samples;
+use crate::tally::{Call, Tally};
+
+/// The places asked for in every record: all that a lead can have, and one on each side.
+const PLACES: RangeInclusive<usize> = 0..=33;
+/// Places that a number of 8, 16 or 32 bits would take for another.
+const FAR: [usize; 5] = [256, 257, 65_537, (1 << 32) + 1, usize::MAX];
+/// Rows that have no rule over a record alone.
+const NO_ROWS: [u8; 6] = [0, 10, 11, 14, 17, 255];
+/// A record of more bytes is asked for fewer places, as each call judges all of them.
+const LONG: usize = 1536;
+
+/// Makes the calls on leads, by the library and by the judge.
+pub fn compare(record: &[u8], rng: &mut Rng, tally: &mut Tally) -> Result<(), Difference> {
+    breaks(record, tally)?;
+    let first = judge::lead(record, 1);
+    let leads = first.map_or(0, |entry| entry.leads as usize);
+    let places = places(record, first, rng);
+    if PLACES.clone().all(|place| places.contains(&place)) {
+        tally.every_place();
+    }
+    for place in places {
+        let judged = entry(record, place, tally)?;
+        read_once(record, place, judged, rng, tally)?;
+    }
+    if leads > 0 {
+        read_with_every_length(record, 1 + rng.below(leads), rng, tally)?;
+    }
+    wrapper(record, rng.below(leads + 2))
+}
+
+/// The places to ask for: all of them; of a long record some that have a lead and some that have none. Where the first place
+/// is refused all are, and any few will do.
+fn places(record: &[u8], first: Result<judge::Entry, u8>, rng: &mut Rng) -> Vec<usize> {
+    let far = rng.pick(&FAR);
+    match first {
+        Err(_) => vec![0, 1, rng.within(PLACES), far],
+        Ok(entry) if record.len() > LONG => {
+            let leads = entry.leads as usize;
+            vec![0, 1, 1 + rng.below(leads), leads, leads + 1, far]
+        }
+        Ok(_) => PLACES.chain([far]).collect(),
+    }
+}
+
+/// Each row's rule, asked alone. It means its row as long as no smaller one is broken.
+fn breaks(record: &[u8], tally: &mut Tally) -> Result<(), Difference> {
+    let mut broken = false;
+    for row in 1..=9 {
+        let answer = ask(record, row);
+        if broken {
+            hold(answer <= 1, "scp_breaks: neither 0 nor 1")?;
+            continue;
+        }
+        broken = judge::breaks(record, row);
+        same(&format!("scp_breaks, row {row}"), answer, broken.into())?;
+        tally.answer(Call::Breaks, if broken { row } else { 0 });
+    }
+    for row in NO_ROWS {
+        same(&format!("scp_breaks, row {row}"), ask(record, row), 0)?;
+    }
+    Ok(())
+}
+
+fn ask(record: &[u8], row: u8) -> u8 {
+    // SAFETY: `record` is lent for the call, which only reads it.
+    unsafe { raw::scp_breaks(record.as_ptr(), record.len(), row) }
+}
+
+/// What the record says of a lead, as the judge has it too.
+fn entry(
+    record: &[u8],
+    place: usize,
+    tally: &mut Tally,
+) -> Result<Result<judge::Entry, u8>, Difference> {
+    let judged = judge::lead(record, place);
+    // SAFETY: `record` is lent for the call, which only reads it.
+    let entry = unsafe { raw::scp_lead(record.as_ptr(), record.len(), place) };
+    let expected = match judged {
+        Err(refusal) => raw::ScpEntry {
+            refusal,
+            ..Default::default()
+        },
+        Ok(entry) => raw::ScpEntry {
+            refusal: 0,
+            id: entry.id,
+            flags: entry.flags,
+            order: entry.order,
+            step: entry.step,
+            interval: entry.interval,
+            first: entry.first,
+            last: entry.last,
+            leads: entry.leads,
+            bytes: entry.bytes,
+        },
+    };
+    same(&format!("scp_lead, place {place}"), entry, expected)?;
+    tally.answer(Call::Lead, number(&judged));
+    Ok(judged)
+}
+
+/// Reads a lead with an output that is just enough or longer, and work space that is just enough; where there is no lead,
+/// with any lengths. What refuses the entry refuses the reading.
+fn read_once(
+    record: &[u8],
+    place: usize,
+    judged: Result<judge::Entry, u8>,
+    rng: &mut Rng,
+    tally: &mut Tally,
+) -> Result<(), Difference> {
+    let more = rng.pick(&[0, 0, 1]) * rng.small(500);
+    match judged {
+        Ok(entry) => {
+            let (out, work) = needs(record, &entry);
+            read(record, place, (out + more, work), rng, tally)
+        }
+        Err(refusal) => {
+            let refused = Err(Refused::untouched(refusal));
+            let lengths = (more, rng.small(300));
+            read_as_judged(record, place, lengths, refused, rng, tally)
+        }
+    }
+}
+
+/// Reads a lead with output and work space of just enough, one too few, none and far too many elements, each with each.
+fn read_with_every_length(
+    record: &[u8],
+    place: usize,
+    rng: &mut Rng,
+    tally: &mut Tally,
+) -> Result<(), Difference> {
+    let Ok(entry) = judge::lead(record, place) else {
+        return Ok(());
+    };
+    let (out, work) = needs(record, &entry);
+    let mut lengths = |enough: usize| {
+        let more = rng.small(3000);
+        let far = match rng.one_in(40) {
+            true => 2 * scp::SAMPLES_MAX + more,
+            false => enough + 100 + more,
+        };
+        let mut lengths = vec![enough, enough.saturating_sub(1), 0, far];
+        lengths.sort();
+        lengths.dedup();
+        lengths
+    };
+    let (outs, works) = (lengths(out), lengths(work));
+    for &out in &outs {
+        for &work in &works {
+            read(record, place, (out, work), rng, tally)?;
+        }
+    }
+    Ok(())
+}
+
+/// Reads a lead with so many elements of output and of work space.
+fn read(
+    record: &[u8],
+    place: usize,
+    (out_n, work_n): (usize, usize),
+    rng: &mut Rng,
+    tally: &mut Tally,
+) -> Result<(), Difference> {
+    let judged = judge::read_lead(record, place, out_n, work_n);
+    read_as_judged(record, place, (out_n, work_n), judged, rng, tally)
+}
+
+/// Has the library read a lead with so many elements of output and of work space, with guards around both, and holds what
+/// comes back to what the judge has.
+fn read_as_judged(
+    record: &[u8],
+    place: usize,
+    (out_n, work_n): (usize, usize),
+    judged: Result<judge::Lead, Refused>,
+    rng: &mut Rng,
+    tally: &mut Tally,
+) -> Result<(), Difference> {
+    let mut out = Samples::new(out_n, rng);
+    let mut work = Samples::new(work_n, rng);
+    // SAFETY: all three are lent for the call, which only reads the record; no two of them share memory.
+    let lead = unsafe {
+        let (out, work) = (out.lent(), work.lent());
+        raw::scp_read_lead(
+            record.as_ptr(),
+            record.len(),
+            place,
+            out.as_mut_ptr(),
+            out.len(),
+            work.as_mut_ptr(),
+            work.len(),
+        )
+    };
+    let call = format!("scp_read_lead, place {place}, output of {out_n}, work space of {work_n}");
+    let (expected, samples, cleared) = expected(&judged);
+    same(&call, lead, expected)?;
+    let asked = |holds, words: &str| hold(holds, &format!("{call}: {words}"));
+    asked(
+        out.holds(samples),
+        "the samples differ, or other elements were changed",
+    )?;
+    match cleared {
+        true => asked(work.is_cleared(), "the work space is not zeros, all of it")?,
+        false => asked(work.is_untouched(), "the work space was changed")?,
+    }
+    let call = if cleared {
+        Call::ReadLeadWithBeat
+    } else {
+        Call::ReadLead
+    };
+    tally.answer(call, expected.refusal);
+    tally.samples(samples.len());
+    Ok(())
+}
+
+/// What is to come back: the answer, the samples, and whether the work space is cleared.
+fn expected(judged: &Result<judge::Lead, Refused>) -> (raw::ScpLead, &[i16], bool) {
+    match judged {
+        Err(refused) => {
+            let lead = raw::ScpLead {
+                refusal: refused.number,
+                ..Default::default()
+            };
+            (lead, &[], refused.work_cleared)
+        }
+        Ok(read) => {
+            let lead = raw::ScpLead {
+                refusal: 0,
+                id: read.id,
+                flags: read.flags,
+                step: read.step,
+                interval: read.interval,
+                first: read.first,
+                count: read.samples.len() as u32,
+            };
+            (lead, &read.samples, read.work_cleared)
+        }
+    }
+}
+
+/// How many elements of output and of work space reading this lead takes.
+fn needs(record: &[u8], entry: &judge::Entry) -> (usize, usize) {
+    let work = match entry.flags & 1 {
+        1 => beat_count(record),
+        _ => 0,
+    };
+    ((entry.last - entry.first) as usize + 1, work)
+}
+
+/// N of a record that has leads and a beat: from the beat's length in Section 4 and the interval in Section 5.
+fn beat_count(record: &[u8]) -> usize {
+    let two = |section: u16, at: usize| {
+        let at = draft::section(record, section).start + draft::HEADER + at;
+        usize::from(u16::from_le_bytes([record[at], record[at + 1]]))
+    };
+    1000 * two(4, 0) / two(5, 2)
+}
+
+/// The safe wrapper says the same as the judge.
+fn wrapper(record: &[u8], place: usize) -> Result<(), Difference> {
+    let read = scp::samples(record, place).map_err(scp::Refusal::number);
+    let room = scp::SAMPLES_MAX;
+    let judged = judge::read_lead(record, place, room, room).map_err(|refused| refused.number);
+    same("samples", number(&read), number(&judged))?;
+    if let (Ok((lead, samples)), Ok(judged)) = (&read, &judged) {
+        same("samples", samples, &judged.samples)?;
+        same("samples", lead.count, samples.len())?;
+        let all = (lead.id, lead.flags, lead.step, lead.interval, lead.first);
+        let judged = (
+            judged.id,
+            judged.flags,
+            judged.step,
+            judged.interval,
+            judged.first,
+        );
+        same("samples", all, judged)?;
+    }
+    let leads = scp::leads(record).map_err(scp::Refusal::number);
+    let judged = judge::lead(record, 1);
+    let count = judged.map(|entry| entry.leads as usize);
+    same(
+        "leads",
+        leads.as_ref().map(Vec::len),
+        count.as_ref().map(|count| *count),
+    )?;
+    same("breaks", scp::breaks(record, 1), judge::breaks(record, 1))
+}
