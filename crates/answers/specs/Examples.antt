@@ -7,8 +7,10 @@ use lib.IntN.{ℤ, pos, negsuc}
 use lib.ListN.{length}
 use Rattle.bits.specs.Bits.{lowBits, bitsIn}
 use Rattle.tables.specs.declared.Structure.{Structure}
-use Rattle.tables.specs.Section2.{tablesIn, section2Right}
+use Rattle.tables.specs.Structures.{every}
+use Rattle.tables.specs.Section2.{tablesIn, tableRight, section2Right}
 use Rattle.reading.specs.Reading.{Next, gave, stuck, readNext}
+use Rattle.shortest.specs.Shortest.{NoStream, Takes}
 use Rattle.samples.specs.Differences.{differences}
 use Rattle.entries.specs.Beat.{beatSamples}
 use Rattle.fields.specs.Identifier.{same}
@@ -40,6 +42,16 @@ unfoldable pub readMany : ℕ → List (List Structure) → ℕ → List ℕ →
 readMany zero tables table bs = values [] (length bs)
 readMany (suc n) tables table bs = onward (readMany n tables) (readNext tables table bs)
 
+-- P5's values
+unfoldable pub twenty : List ℤ
+twenty =
+    pos 1 ∷ pos 2 ∷ negsuc 0 ∷ pos 0 ∷ pos 3 ∷ pos 0 ∷ pos 4 ∷ pos 1 ∷ pos 0 ∷ negsuc 1 ∷ pos 0 ∷ pos 15 ∷ negsuc 0 ∷ pos 0 ∷ pos 13 ∷ pos 0
+    ∷ pos 1 ∷ negsuc 1 ∷ negsuc 0 ∷ pos 1 ∷ []
+
+-- the samples of P9: -32,768, 32,767, -32,768
+unfoldable pub extremes : List ℤ
+extremes = negsuc 32767 ∷ pos 32767 ∷ negsuc 32767 ∷ []
+
 -- the samples of P1 and P2
 unfoldable pub eight : List ℤ
 eight = pos 10 ∷ pos 12 ∷ pos 13 ∷ pos 15 ∷ pos 18 ∷ pos 22 ∷ pos 20 ∷ pos 15 ∷ []
@@ -63,9 +75,16 @@ pub record Examples : Type 0 where
   -- P5: the two tables are right, and these bytes read to the 20 values through both switches; of their 96 bits 92 are taken
   pub p5-tables : section2Right 0 twoTables 0 ≡ true
   pub p5 : readMany 20 (tablesIn twoTables 0) 1 (bitsIn (153 ∷ 94 ∷ 6 ∷ 240 ∷ 72 ∷ 222 ∷ 128 ∷ 253 ∷ 1 ∷ 189 ∷ 54 ∷ 192 ∷ []))
-      ≡ values (pos 1 ∷ pos 2 ∷ negsuc 0 ∷ pos 0 ∷ pos 3 ∷ pos 0 ∷ pos 4 ∷ pos 1 ∷ pos 0 ∷ negsuc 1 ∷ pos 0 ∷ pos 15 ∷ negsuc 0 ∷ pos 0 ∷ pos 13 ∷ pos 0
-      ∷ pos 1 ∷ negsuc 1 ∷ negsuc 0 ∷ pos 1 ∷ []) 4
+      ≡ values twenty 4
+  -- P6: the shortest for these is 87 bits
+  pub p6 : Takes (tablesIn twoTables 0) twenty 87
+  -- P7: 15 alone takes 12 bits; 15 15 takes 22
+  pub p7-one : Takes (tablesIn twoTables 0) (pos 15 ∷ []) 12
+  pub p7-two : Takes (tablesIn twoTables 0) (pos 15 ∷ pos 15 ∷ []) 22
   -- P8: a beat of 1,000 ms has 500 samples 2,000 µs apart
   pub p8 : beatSamples 1000 2000 ≡ 500
+  -- P9: order 2 stores -131,070 as the third, and no stream reads to these values, by any tables that are right or by none
+  pub p9-values : differences 2 extremes ≡ negsuc 32767 ∷ pos 32767 ∷ negsuc 131069 ∷ []
+  pub p9 : (tables : List (List Structure)) → every (tableRight (length tables)) tables ≡ true → NoStream tables (differences 2 extremes)
   -- P10: identifiers 007 and 7 differ
   pub p10 : same id007 id7 ≡ false

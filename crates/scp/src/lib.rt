@@ -11,7 +11,9 @@ ghost use Rattle.fields.specs.Identifier.{same};
 ghost use Rattle.rules.specs.Breaks.{keeps};
 ghost use Rattle.leads.specs.Leads.{readTrace};
 ghost use Rattle.leads.specs.Answers.{leadAnswer, outAfter, workAfter, entryAnswer};
+ghost use Rattle.encode.specs.Encoding.{Encoded};
 ghost use Rattle.scp.specs.Answers.{partAt, shown, oneIf};
+use encode::Coded;
 use fields::Place;
 use header::Step;
 use leads::Entry;
@@ -162,4 +164,18 @@ pub extern "C" fn scp_breaks(rec: &[u8], row: u8) -> u8
         return 0;
     }
     1
+}
+
+// Encoding a lead's samples by Section 2's data, none if they are empty: the shortest stream, at the front of the output.
+#[no_mangle]
+pub extern "C" fn scp_encode_lead(
+    section2: &[u8],
+    samples: &[i16],
+    order: u8,
+    work: &mut [u8],
+    out: &mut [u8],
+) -> Coded
+    ensures { λ r. ⌜ Encoded (now (section2 .entry)) (now (samples .entry)) order (now (work .entry)) (now (out .entry)) r (now (work .exit)) (now (out .exit)) ⌝ }
+{
+    encode::encode_lead(section2, samples, order as usize, work, out)
 }

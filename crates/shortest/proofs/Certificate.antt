@@ -1,8 +1,8 @@
 -- How many bits the shortest stream takes, by computation: costs are made layer by layer and tested to be closed, so that no stream is
--- shorter; and one stream is shown to be that short. P6, P7 and P9 (01, Examples to hold against). Assumes nothing.
+-- shorter; and one stream is shown to be that short. Assumes nothing.
 use Prim.Native.Nat.{ℕ, zero, suc, _^_, _≤_, _<_, min}
 use mathlib.Core.Path.{_≡_, refl}
-use mathlib.Core.Bool.{Bool, true, false, _&&_}
+use mathlib.Core.Bool.{Bool, true, _&&_, and-eq-true-iff}
 use mathlib.Core.List.{List, [], _∷_}
 use native.Mathlib.Omega.{arith}
 use borrow.Author.Tests.{leb-true, ltb-true}
@@ -20,7 +20,7 @@ use Rattle.tables.specs.Section2.{tableOf, tableRight}
 use Rattle.reading.specs.Reading.{matching, valueOf, afterMatch, readWithin, readCoded, readNext}
 use Rattle.paths.specs.InnerPaths.{Codes, There, Sound, Reads, done, value, switch, cost, Closed}
 use Rattle.paths.proofs.Optimal.{lower}
-use Rattle.shortest.specs.Shortest.{areBits, Stream, Shortest, NoStream}
+use Rattle.shortest.specs.Shortest.{areBits, Stream, NoStream, Takes}
 use Rattle.shortest.specs.InnerRule.{twos, holds, equal, serves, kindOf, wordOf, structureOf, rule}
 use Rattle.shortest.proofs.Laws.{unlike, base-small, equal-true, gives-value}
 use Rattle.shortest.proofs.Bridge.{structure-fine, sound, reads-of}
@@ -30,38 +30,34 @@ use Rattle.shortest.proofs.Existence.{readsIt, passes-reads, shortest-t
 -- ---- costs, computed
 
 -- the cost of a table, by its number; place 0 is not used
-abbrev at : List ℕ → ℕ → ℕ
+abbrev pub at : List ℕ → ℕ → ℕ
 at costs t = getD costs t 0
 
 -- the least of f's first m values, or top
-abbrev leastOf : (ℕ → ℕ) → ℕ → ℕ → ℕ
+abbrev pub leastOf : (ℕ → ℕ) → ℕ → ℕ → ℕ
 leastOf f zero top = top
 leastOf f (suc m) top = min (f m) (leastOf f m top)
 
 -- f at n numbers, from i on
-abbrev valuesFrom : (ℕ → ℕ) → ℕ → ℕ → List ℕ
+abbrev pub valuesFrom : (ℕ → ℕ) → ℕ → ℕ → List ℕ
 valuesFrom f i zero = []
 valuesFrom f i (suc n) = f i ∷ valuesFrom f (suc i) n
 
-both : (a b : Bool) → a && b ≡ true → (a ≡ true) × (b ≡ true)
-both true b h = (refl, h)
-both false b h = unlike cc
-
 module _ {A : Type 0} (G : Codes A) (cap : ℕ) where
   -- each table's cost made as small as its structures make it, so many times over
-  abbrev rounds : ℕ → List ℕ → A → List ℕ → List ℕ
+  abbrev pub rounds : ℕ → List ℕ → A → List ℕ → List ℕ
   rounds zero next v cur = cur
   rounds (suc n) next v cur =
       rounds n next v
       (0 ∷ valuesFrom (λ t. leastOf (cost G cap (at next) (at cur) v t) (G .count t) (at cur t)) 1 (G .tables))
 
   -- no structure of any table makes its cost smaller
-  abbrev isClosed : List ℕ → List ℕ → A → Bool
+  abbrev pub isClosed : List ℕ → List ℕ → A → Bool
   isClosed next cur v =
       allIn 1 (suc (G .tables)) (λ t. allIn 0 (G .count t) (λ k. leb (at cur t) (cost G cap (at next) (at cur) v t k)))
 
   -- the costs from the first of the values on, and whether every layer's are closed
-  abbrev costsOf : List A → List ℕ × Bool
+  abbrev pub costsOf : List A → List ℕ × Bool
   costsOf [] = (replicate (suc (G .tables)) 0, true)
   costsOf (v ∷ vs) =
       let later : List ℕ × Bool = costsOf vs in
@@ -81,28 +77,24 @@ module _ {A : Type 0} (G : Codes A) (cap : ℕ) where
   costs-low W (v ∷ vs) h t s ht r =
       let next = costsOf vs .0 in
       let cur = costsOf (v ∷ vs) .0 in
-      let p = both (isClosed next cur v) (costsOf vs .1) h in
+      let p = and-eq-true-iff (isClosed next cur v) (costsOf vs .1) .0 h in
       lower G W cap (at next) (at cur) v vs (closed-at next cur v (p .0)) (costs-low W vs (p .1)) t s ht r
 
 -- ---- the bits that the shortest stream takes
 
--- there is a shortest stream, and it takes n bits
-abbrev pub Takes : List (List Structure) → List ℤ → ℕ → Type 0
-Takes tables vs n = ((bs : List ℕ) × Shortest tables vs bs) × ((bs : List ℕ) → Shortest tables vs bs → length bs ≡ n)
-
 -- the tests: the tables are right, the costs are closed, and this stream reads to the values
-abbrev passesAll : List (List Structure) → List ℤ → List ℕ → Bool
+abbrev pub passesAll : List (List Structure) → List ℤ → List ℕ → Bool
 passesAll tables vs stream =
     every (tableRight (length tables)) tables && (costsOf (rule tables) 1000 vs .1 && (areBits stream && readsIt tables vs 1 stream))
 
-takes : (tables : List (List Structure)) (vs : List ℤ) (stream : List ℕ) (n : ℕ) → 1 ≤ length tables → passesAll tables vs stream ≡ true
+pub takes : (tables : List (List Structure)) (vs : List ℤ) (stream : List ℕ) (n : ℕ) → 1 ≤ length tables → passesAll tables vs stream ≡ true
     → length stream ≡ n → at (costsOf (rule tables) 1000 vs .0) 1 ≡ n → Takes tables vs n
 takes tables vs stream n there h e c =
     let right = every (tableRight (length tables)) tables in
     let closed = costsOf (rule tables) 1000 vs .1 in
-    let p = both right (closed && (areBits stream && readsIt tables vs 1 stream)) h in
-    let q = both closed (areBits stream && readsIt tables vs 1 stream) (p .1) in
-    let r = both (areBits stream) (readsIt tables vs 1 stream) (q .1) in
+    let p = and-eq-true-iff right (closed && (areBits stream && readsIt tables vs 1 stream)) .0 h in
+    let q = and-eq-true-iff closed (areBits stream && readsIt tables vs 1 stream) .0 (p .1) in
+    let r = and-eq-true-iff (areBits stream) (readsIt tables vs 1 stream) .0 (q .1) in
     let own : Stream tables vs stream = record { bits = r .0; reads = passes-reads tables vs 1 stream (r .1) } in (
       shortest-there tables vs stream own,
       λ bs s.
@@ -111,48 +103,7 @@ takes tables vs stream n there h e c =
           omega (arith, low, s .fewest stream own),
     )
 
--- ---- P6 and P7: the two tables of 000, C.2.7.3
-
-abbrev structure : ℕ → ℕ → ℕ → ℕ → ℕ → Structure
-structure prefix whole mode base code = record { prefix = prefix; whole = whole; mode = mode; base = base; code = code }
-
-unfoldable pub two : List (List Structure)
-two =
-    (structure 1 1 1 0 0
-    ∷ structure 3 3 1 1 1
-    ∷ structure 3 3 1 65535 5
-    ∷ structure 4 4 1 2 3
-    ∷ structure 4 4 1 65534 11
-    ∷ structure 4 4 0 2 7
-    ∷ structure 4 12 1 0 15
-    ∷ [])
-    ∷ (structure 1 9 1 0 0 ∷ structure 3 3 1 0 1 ∷ structure 3 3 1 1 5 ∷ structure 3 3 1 65535 3 ∷ structure 3 3 0 1 7 ∷ [])
-    ∷ []
-
-unfoldable pub twenty : List ℤ
-twenty =
-    pos 1 ∷ pos 2 ∷ negsuc 0 ∷ pos 0 ∷ pos 3 ∷ pos 0 ∷ pos 4 ∷ pos 1 ∷ pos 0 ∷ negsuc 1 ∷ pos 0 ∷ pos 15 ∷ negsuc 0 ∷ pos 0 ∷ pos 13 ∷ pos 0
-    ∷ pos 1 ∷ negsuc 1 ∷ negsuc 0 ∷ pos 1 ∷ []
-
--- by one computation
-computed : Takes two twenty 87 × Takes two (pos 15 ∷ []) 12 × Takes two (pos 15 ∷ (pos 15 ∷ [])) 22
-unfolding two twenty allIn each tableRight every structureRight modeRight prefixFree apart begins lowBits highBits bitsIn numberAfter signed areBits readsIt readNext readCoded readWithin afterMatch valueOf matching tableOf twos holds equal serves kindOf wordOf
-computed = (
-  takes two twenty (take 87 (bitsIn (153 ∷ 94 ∷ 6 ∷ 240 ∷ 72 ∷ 215 ∷ 135 ∷ 215 ∷ 134 ∷ 166 ∷ 216 ∷ []))) 87 (omega arith) refl refl refl,
-  takes two (pos 15 ∷ []) (take 12 (bitsIn (240 ∷ 240 ∷ []))) 12 (omega arith) refl refl refl,
-  takes two (pos 15 ∷ (pos 15 ∷ [])) (take 22 (bitsIn (224 ∷ 120 ∷ 60 ∷ []))) 22 (omega arith) refl refl refl,
-)
-
-pub p6 : Takes two twenty 87
-p6 = computed .0
-
-pub p7-one : Takes two (pos 15 ∷ []) 12
-p7-one = computed .1
-
-pub p7-two : Takes two (pos 15 ∷ (pos 15 ∷ [])) 22
-p7-two = computed .2
-
--- ---- P9: no code gives a value outside 16 bits
+-- ---- no code gives a value outside 16 bits
 
 serves-holds : (r base : ℕ) (v : ℤ) → r ≤ 16 → serves r base v ≡ true → mag v < 32768
 unfolding serves holds
@@ -176,8 +127,3 @@ outside-none [] right vs k h g bs s = plain-none vs k h g bs s
 outside-none (cs ∷ others) right vs k h g bs s =
     let tables = cs ∷ others in
     omega (arith, reads-holds tables right (reads-of tables right (omega arith) s) k h)
-
--- order 2, samples -32768, 32767, -32768
-pub p9 : (tables : List (List Structure)) → every (tableRight (length tables)) tables ≡ true
-    → NoStream tables (negsuc 32767 ∷ (pos 32767 ∷ (negsuc 131069 ∷ [])))
-p9 tables right = outside-none tables right (negsuc 32767 ∷ (pos 32767 ∷ (negsuc 131069 ∷ []))) 2 (omega arith) (omega arith)

@@ -39,3 +39,7 @@ pub record Shortest (tables : List (List Structure)) (vs : List ℤ) (bs : List 
 -- no stream reads to these values
 abbrev pub NoStream : List (List Structure) → List ℤ → Type 0
 NoStream tables vs = (bs : List ℕ) → Stream tables vs bs → ⊥
+
+-- there is a shortest stream, and it takes n bits
+abbrev pub Takes : List (List Structure) → List ℤ → ℕ → Type 0
+Takes tables vs n = ((bs : List ℕ) × Shortest tables vs bs) × ((bs : List ℕ) → Shortest tables vs bs → length bs ≡ n)

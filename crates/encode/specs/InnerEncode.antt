@@ -1,0 +1,52 @@
+-- What writing a lead's stream asks and leaves. No public contract rests on this.
+use Prim.Native.Nat.{ℕ, zero, suc, _%_, _^_, min}
+use mathlib.Core.Path.{_≡_}
+use mathlib.Core.List.{List, [], _++_}
+use mathlib.Core.Logic.{_⊎_}
+use mathlib.Core.Option.{Option, none, some}
+use lib.IntN.{ℤ}
+use lib.ListN.{length, replicate}
+use Rattle.bits.specs.Bits.{highBits}
+use Rattle.tables.specs.declared.Structure.{Structure}
+use Rattle.compiled.specs.declared.Form.{Form}
+use Rattle.compiled.specs.InnerForm.{Holding}
+use Rattle.search.specs.InnerSearch.{Planned}
+use Rattle.encode.specs.declared.Coded.{Coded}
+use Rattle.encode.specs.Encoding.{Found, foundRefusal, codedAs, outAs}
+
+-- the code word of a structure's form for a value, 131,072 added
+abbrev pub codeOf : Form → ℕ → List ℕ
+codeOf f v = highBits (f .prefix) (f .word) ++ highBits (f .remainder) (v % 2 ^ f .remainder)
+
+-- the numbers hold some n tables, or none where n is 0
+abbrev pub HeldBy : List ℕ → ℕ → Type 0
+HeldBy tab n = (tables : List (List Structure)) × Holding tables tab × (length tables ≡ n)
+
+-- how many bits were found: 524,281 for that many and more, 524,282 for no stream
+abbrev pub bitsFound : Option (List ℕ) → ℕ
+bitsFound none = 524282
+bitsFound (some bs) = min 524281 (length bs)
+
+-- r is how many bits the shortest stream has
+abbrev pub Sized : List (List Structure) → List ℤ → ℕ → Type 0
+Sized tables vs r = (found : Option (List ℕ)) × Found tables vs found × (r ≡ bitsFound found)
+
+-- the way of a stream of r bits is in the work space; without Section 2 none is needed
+abbrev pub Laid : List (List Structure) → List ℤ → List ℕ → ℕ → Type 0
+Laid tables vs work r = (tables ≡ []) ⊎ Planned tables vs work r
+
+-- what writing a lead's stream answers, and the output afterwards
+abbrev pub Written : List (List Structure) → List ℤ → List ℕ → Coded → List ℕ → Type 0
+Written tables vs out r out′ =
+    (found : Option (List ℕ)) × Found tables vs found × (r ≡ codedAs (foundRefusal (length out) found) found)
+    × (out′ ≡ outAs (foundRefusal (length out) found) found out)
+
+-- the work space: zeros, unless there are no tables
+abbrev pub clearedIf : ℕ → List ℕ → List ℕ
+clearedIf zero work = work
+clearedIf (suc n) work = replicate (length work) 0
+
+-- how many numbers hold the tables of Section 2's data, of which there are so many bytes
+abbrev pub heldFor : ℕ → ℕ
+heldFor zero = 0
+heldFor (suc n) = 3080

@@ -1,0 +1,338 @@
+// Encoding one lead: the shortest stream, packed at the front of the output (the third demand; refusals 7, 11 and 15 to 17).
+ghost use mathlib.Core.Path.{_≡_};
+ghost use mathlib.Core.Bool.{true};
+ghost use mathlib.Core.List.{List, [], _++_};
+ghost use mathlib.Core.Option.{Option, some};
+ghost use Prim.Native.Nat.{ℕ, suc, _+_, _*_, _/_, _%_, _^_, _<_, _≤_};
+ghost use lib.ListN.{length, take, drop, replicate};
+ghost use Rattle.packing.specs.Packing.{packed, bytesFor};
+ghost use Rattle.packing.specs.InnerSink.{Holds};
+ghost use Rattle.samples.specs.Differences.{differences};
+ghost use Rattle.tables.specs.declared.Structure.{Structure};
+ghost use Rattle.compiled.specs.InnerForm.{Ready, Holding};
+ghost use Rattle.shortest.specs.Shortest.{Shortest};
+ghost use Rattle.shortest.specs.InnerRule.{plainBytes};
+ghost use Rattle.search.specs.InnerSearch.{FilledBy, Planned};
+ghost use Rattle.encode.specs.Encoding.{tablesGiven, askedRight, givenRight, askedRefusal, foundRefusal, codedAs, Encoded};
+ghost use Rattle.encode.specs.InnerEncode.{codeOf, HeldBy, bitsFound, Sized, Laid, Written, clearedIf, heldFor};
+use compiled::Form;
+use packing::Sink;
+
+// One more than the bits of 65,535 bytes, where the count of bits stops; and no stream.
+const CAP: usize = 524281;
+
+const NONE: usize = 524282;
+
+// What encoding a lead answers: 0 or a refusal number, and on a refusal nothing else; the stream's bytes and bits.
+#[repr(C)]
+pub struct Coded {
+    pub refusal: u8,
+    pub bytes: u32,
+    pub bits: u32,
+}
+
+// A structure's code for a value, 131,072 added: the prefix, then the bits of the remainder.
+fn put_code(sink: Sink, out: &mut [u8], f: Form, v: usize) -> Sink
+    requires { ⌜ (f .prefix ≤ 32) × (f .remainder ≤ 16) × (f .word < 2 ^ f .prefix) ⌝ }
+    requires { ⌜ (sink .part < 8) × (sink .acc < 2 ^ sink .part)
+        × ((sink .at * 8 + sink .part + (f .prefix + f .remainder)) / 8 ≤ length (now out)) ⌝ }
+    ensures { λ r. ⌜ ((bs : List ℕ) → Holds (now (out .entry)) sink bs → Holds (now (out .exit)) r (bs ++ codeOf f v))
+        × (length (now (out .exit)) ≡ length (now (out .entry)))
+        × (drop (r .at) (now (out .exit)) ≡ drop (r .at) (now (out .entry))) ⌝ }
+{
+    let p = sink.put(out, f.word, f.prefix);
+    p.put(out, v % tables::power(f.remainder), f.remainder)
+}
+
+// The stream whose way is in the work space, at the front of the output. From table 1 and the first sample on: the code of the
+// structure that stands there, and on behind it; a switch leads to its table, a value to the next sample.
+fn walk(tab: &[u32], n: usize, xs: &[i16], order: usize, work: &[u8], bits: usize, out: &mut [u8])
+    requires { ⌜ FilledBy (now tab) n × (length (now xs) * n ≤ length (now work)) × (bits < 524281) × (bytesFor bits ≤ length (now out)) ⌝ }
+    requires { ⌜ ((tables : List (List Structure)) → Ready tables (now tab) → length tables ≡ n
+        → Planned tables (differences order (now xs)) (now work) bits) ⌝ }
+    ensures { λ _. ⌜ ((tables : List (List Structure)) → Ready tables (now (tab .entry)) → length tables ≡ n
+        → (bs : List ℕ) → Shortest tables (differences order (now (xs .entry))) bs
+        → now (out .exit) ≡ packed bs ++ drop (bytesFor (length bs)) (now (out .entry))) ⌝ }
+{
+    let mut sink = Sink::new();
+    let mut i = 0;
+    let mut t = 1;
+    let mut left = bits;
+    while 0 < left {
+        let k = work[i * n + (t - 1)] as usize;
+        let f = compiled::form_at(tab, t - 1, k);
+        let v = samples::value_at(xs, order, i);
+        sink = put_code(sink, out, f, v);
+        left -= f.prefix + f.remainder;
+        if f.to == 0 {
+            i += 1;
+        } else {
+            t = f.to;
+        }
+    }
+    sink.end(out);
+}
+
+// Without Section 2: 16 bits a value, and no stream where a value has more.
+fn plain_bits(xs: &[i16], order: usize) -> usize
+    requires { ⌜ length (now xs) ≤ 65536 ⌝ }
+    ensures { λ r. ⌜ Sized [] (differences order (now (xs .entry))) r ⌝ }
+{
+    let mut i = 0;
+    while i < xs.len() {
+        let v = samples::value_at(xs, order, i);
+        if v < 98304 {
+            return NONE;
+        }
+        if 163840 <= v {
+            return NONE;
+        }
+        i += 1;
+    }
+    let bits = xs.len() * 16;
+    if bits < CAP {
+        return bits;
+    }
+    CAP
+}
+
+// Without Section 2: two bytes a value, the least first.
+fn put_plain(xs: &[i16], order: usize, out: &mut [u8])
+    requires { ⌜ length (now xs) * 2 ≤ length (now out) ⌝ }
+    ensures { λ _. ⌜ now (out .exit)
+        ≡ plainBytes (differences order (now (xs .entry))) ++ drop (length (now (xs .entry)) * 2) (now (out .entry)) ⌝ }
+{
+    let mut i = 0;
+    while i < xs.len() {
+        let v = samples::value_at(xs, order, i);
+        let low = v % 256;
+        let high = v / 256 % 256;
+        wire::put16(out, i * 2, low + high * 256);
+        i += 1;
+    }
+}
+
+// How many bits the shortest stream for the samples' differences has: 524,281 for that many and more, 524,282 for no stream. Where
+// there are tables, its way is left in the work space, a byte for each sample and table.
+pub fn stream_bits(tab: &[u32], n: usize, xs: &[i16], order: usize, work: &mut [u8]) -> usize
+    requires { ⌜ HeldBy (now tab) n × (length (now xs) ≤ 65536) × (length (now xs) * n ≤ length (now work)) ⌝ }
+    ensures { λ r. ⌜ ((tables : List (List Structure)) → Holding tables (now (tab .entry)) → length tables ≡ n
+        → Sized tables (differences order (now (xs .entry))) r
+        × Laid tables (differences order (now (xs .entry))) (now (work .exit)) r)
+        × (length (now (tab .entry)) ≡ 0 → now (work .exit) ≡ now (work .entry)) ⌝ }
+{
+    if tab.len() == 0 {
+        return plain_bits(xs, order);
+    }
+    search::plan(tab, n, xs, order, work)
+}
+
+// The shortest stream, at the front of the output: of so many bits as were found, its way in the work space.
+pub fn put_stream(
+    tab: &[u32],
+    n: usize,
+    xs: &[i16],
+    order: usize,
+    work: &[u8],
+    bits: usize,
+    out: &mut [u8],
+)
+    requires { ⌜ HeldBy (now tab) n × (length (now xs) * n ≤ length (now work)) × (bits < 524281) × (bytesFor bits ≤ length (now out)) ⌝ }
+    requires { ⌜ ((tables : List (List Structure)) → Holding tables (now tab) → length tables ≡ n
+        → Sized tables (differences order (now xs)) bits × Laid tables (differences order (now xs)) (now work) bits) ⌝ }
+    ensures { λ _. ⌜ ((tables : List (List Structure)) → Holding tables (now (tab .entry)) → length tables ≡ n
+        → (bs : List ℕ) → Shortest tables (differences order (now (xs .entry))) bs
+        → now (out .exit) ≡ packed bs ++ drop (bytesFor (length bs)) (now (out .entry))) ⌝ }
+{
+    if tab.len() == 0 {
+        put_plain(xs, order, out);
+        return;
+    }
+    walk(tab, n, xs, order, work, bits, out);
+}
+
+// 15, 16 or 11 for the output, or 0, where so many bits were found.
+fn found_refusal(bits: usize, room: usize) -> u8
+    ensures { λ r. ⌜ ((found : Option (List ℕ)) → bits ≡ bitsFound found → r ≡ foundRefusal room found) ⌝ }
+{
+    if CAP < bits {
+        return 15;
+    }
+    if 524280 < bits {
+        return 16;
+    }
+    if room < (bits + 7) / 8 {
+        return 11;
+    }
+    0
+}
+
+// A refusal and nothing else.
+fn refused(refusal: u8) -> Coded
+    ensures { λ r. ⌜ ((n : ℕ) (found : Option (List ℕ)) → refusal ≡ suc n → r ≡ codedAs (suc n) found) ⌝ }
+{
+    Coded {
+        refusal,
+        bytes: 0,
+        bits: 0,
+    }
+}
+
+// What is answered beside a stream of so many bits.
+fn answer_for(bits: usize) -> Coded
+    requires { ⌜ bits < 524281 ⌝ }
+    ensures { λ r. ⌜ ((bs : List ℕ) → length bs ≡ bits → r ≡ codedAs 0 (some bs)) ⌝ }
+{
+    Coded {
+        refusal: 0,
+        bytes: ((bits + 7) / 8) as u32,
+        bits: bits as u32,
+    }
+}
+
+// The stream is looked for and, if nothing is refused, put at the front of the output.
+fn write_stream(
+    tab: &[u32],
+    n: usize,
+    xs: &[i16],
+    order: usize,
+    work: &mut [u8],
+    out: &mut [u8],
+) -> Coded
+    requires { ⌜ HeldBy (now tab) n × (length (now xs) ≤ 65536) × (length (now xs) * n ≤ length (now work)) ⌝ }
+    ensures { λ r. ⌜ ((tables : List (List Structure)) → Holding tables (now (tab .entry)) → length tables ≡ n
+        → Written tables (differences order (now (xs .entry))) (now (out .entry)) r (now (out .exit)))
+        × (length (now (tab .entry)) ≡ 0 → now (work .exit) ≡ now (work .entry)) ⌝ }
+{
+    let bits = stream_bits(tab, n, xs, order, work);
+    let refusal = found_refusal(bits, out.len());
+    if refusal != 0 {
+        return refused(refusal);
+    }
+    put_stream(tab, n, xs, order, work, bits, out);
+    answer_for(bits)
+}
+
+// All of the lent work space is made zeros.
+pub fn clear(work: &mut [u8])
+    ensures { λ _. ⌜ now (work .exit) ≡ replicate (length (now (work .entry))) 0 ⌝ }
+{
+    let mut k = 0;
+    while k < work.len() {
+        work[k] = 0;
+        k += 1;
+    }
+}
+
+// The stream is written by the tables; where there are any, all of the work space is cleared.
+fn encode_by(
+    tab: &[u32],
+    n: usize,
+    xs: &[i16],
+    order: usize,
+    work: &mut [u8],
+    out: &mut [u8],
+) -> Coded
+    requires { ⌜ HeldBy (now tab) n × (length (now xs) ≤ 65536) × (length (now xs) * n ≤ length (now work)) ⌝ }
+    ensures { λ r. ⌜ ((tables : List (List Structure)) → Holding tables (now (tab .entry)) → length tables ≡ n
+        → Written tables (differences order (now (xs .entry))) (now (out .entry)) r (now (out .exit)))
+        × (now (work .exit) ≡ clearedIf (length (now (tab .entry))) (now (work .entry))) ⌝ }
+{
+    let answer = write_stream(tab, n, xs, order, work, out);
+    if tab.len() == 0 {
+        return answer;
+    }
+    clear(work);
+    answer
+}
+
+// 17: the count of samples and the order are asked right.
+fn asked_right(count: usize, order: usize) -> bool
+    ensures { λ r. ⌜ r ≡ askedRight count order ⌝ }
+{
+    if count < 1 {
+        return false;
+    }
+    if 65536 < count {
+        return false;
+    }
+    order <= 2
+}
+
+// 7: there is no Section 2, or its data are right.
+pub fn given_right(section2: &[u8]) -> bool
+    ensures { λ r. ⌜ r ≡ givenRight (now (section2 .entry)) ⌝ }
+{
+    if section2.len() == 0 {
+        return true;
+    }
+    tables::section2_right(section2, 0, 0)
+}
+
+// How many tables Section 2's data mean.
+pub fn table_count(section2: &[u8]) -> usize
+    requires { ⌜ givenRight (now section2) ≡ true ⌝ }
+    ensures { λ r. ⌜ (r ≡ length (tablesGiven (now (section2 .entry)))) × (r ≤ 8) ⌝ }
+{
+    if section2.len() == 0 {
+        return 0;
+    }
+    if tables::is_default(section2, 0) {
+        return 1;
+    }
+    wire::number16(section2, 0)
+}
+
+// The first of 17, 7 and 11 for the work space that applies, or 0.
+fn asked_refusal(section2: &[u8], count: usize, order: usize, work: usize) -> u8
+    ensures { λ r. ⌜ r ≡ askedRefusal (now (section2 .entry)) count order work ⌝ }
+{
+    if !asked_right(count, order) {
+        return 17;
+    }
+    if !given_right(section2) {
+        return 7;
+    }
+    if work < count * table_count(section2) {
+        return 11;
+    }
+    0
+}
+
+// Room of its own for the numbers of the code tables.
+fn table_room() -> [u32; 3080] {
+    [0; 3080]
+}
+
+// Section 2's tables are taken apart into the room; answered is how many of its numbers hold them, 0 without Section 2.
+pub fn hold_tables(section2: &[u8], tab: &mut [u32]) -> usize
+    requires { ⌜ (length (now tab) ≡ 3080) × (givenRight (now section2) ≡ true) ⌝ }
+    ensures { λ r. ⌜ (r ≤ 3080) × Holding (tablesGiven (now (section2 .entry))) (take r (now (tab .exit)))
+        × (r ≡ heldFor (length (now (section2 .entry)))) ⌝ }
+{
+    if section2.len() == 0 {
+        return 0;
+    }
+    compiled::compile(section2, 0, 0, tab);
+    3080
+}
+
+// A lead's samples become the shortest stream for their differences, at the front of the output.
+pub fn encode_lead(
+    section2: &[u8],
+    xs: &[i16],
+    order: usize,
+    work: &mut [u8],
+    out: &mut [u8],
+) -> Coded
+    ensures { λ r. ⌜ Encoded (now (section2 .entry)) (now (xs .entry)) order (now (work .entry)) (now (out .entry))
+        r (now (work .exit)) (now (out .exit)) ⌝ }
+{
+    let refusal = asked_refusal(section2, xs.len(), order, work.len());
+    if refusal != 0 {
+        return refused(refusal);
+    }
+    let mut tab = table_room();
+    let held = hold_tables(section2, &mut tab);
+    encode_by(&tab[..held], table_count(section2), xs, order, work, out)
+}

@@ -1,0 +1,109 @@
+-- With the tables before t passed, their value's structures are marked, and what they cost is known.
+use Prim.Native.Nat.{ℕ, suc, _+_, _-_, _≤_, _<_}
+use mathlib.Core.Path.{_≡_, refl}
+use mathlib.Core.List.{List}
+use native.Mathlib.Omega.{arith}
+use lib.ListN.{length, length-set, getD-replicate}
+use Rattle.tables.specs.declared.Structure.{Structure}
+use Rattle.compiled.specs.InnerForm.{Ready}
+use Rattle.search.specs.InnerSearch.{cap, at, ValuedTo}
+use Rattle.search.proofs.Laws.{valued, valued-more, place-most, set-most}
+use Rattle.search.proofs.values.Statement.{statement}
+use Rattle.search.proofs.values.Tie as tie
+
+abbrev Inv-loop : tie.InvT-loop
+Inv-loop tab n v next marks₀ cur₀ t₀ marks cur t =
+    (1 ≤ t) × (t ≤ n + 1) × (n ≤ 8) × (length marks ≡ n) × (length cur ≡ 9) × ((u : ℕ) → u < 9 → at cur u ≤ suc cap)
+    × ((tables : List (List Structure)) → Ready tables tab → ValuedTo tables next v marks cur t)
+
+abbrev μ-loop : tie.MeasureT-loop
+μ-loop tab n v next marks₀ cur₀ t₀ marks cur t = n + 1 - t
+
+loop-holds : tie.Need-loop-holds Inv-loop μ-loop
+loop-holds c =
+    let p = c .before .before .pre in (
+      omega arith,
+      omega arith,
+      omega (arith, p .0 .1 .most, p .0 .2),
+      p .1,
+      refl,
+      λ u h. omega (arith, getD-replicate {A = ℕ} 9 u 524282 0 h),
+      λ tables ready u a b. absurd (omega arith),
+    )
+
+nearest-requires : tie.Need-nearest-requires Inv-loop μ-loop
+nearest-requires c κs = let p = c .before .before .before .before .pre in ((p .0 .0, p .0 .1), omega arith, omega arith)
+
+value-cost-requires : tie.Need-value-cost-requires Inv-loop μ-loop
+value-cost-requires c κs =
+    let p = c .before .before .before .before .before .pre in
+    (((p .0 .0, p .0 .1), omega arith, omega arith), c .nearest .ensures .1)
+
+mul-cur : tie.Need-mul-cur Inv-loop μ-loop
+mul-cur c = omega arith
+
+array-write-cur : tie.Need-array-write-cur Inv-loop μ-loop
+array-write-cur c = omega arith
+
+cast-marks : tie.Need-cast-marks Inv-loop μ-loop
+cast-marks c =
+    let p = c .before .before .before .before .before .before .pre in
+    let k = c .before .nearest in
+    omega (arith, place-most (p .0 .1) (c .before .before .before .loop .t) (k .result) (omega arith) (k .ensures .1))
+
+sub-marks : tie.Need-sub-marks Inv-loop μ-loop
+sub-marks c = omega arith
+
+slice-write-marks : tie.Need-slice-write-marks Inv-loop μ-loop
+slice-write-marks c = omega arith
+
+add-t : tie.Need-add-t Inv-loop μ-loop
+add-t c = omega arith
+
+loop-less : tie.Need-loop-less Inv-loop μ-loop
+loop-less c = omega arith
+
+loop-again : tie.Need-loop-again Inv-loop μ-loop
+loop-again c =
+    let a = c .before .before .before .before .before .before .args in
+    let l = c .before .before .before .loop in
+    let k = c .before .nearest in
+    let r = c .value-cost in (
+      omega arith,
+      omega arith,
+      l .inv .2,
+      simp length-set (l .inv .3),
+      simp length-set (l .inv .4),
+      set-most (l .cur) (l .t) (r .result) (suc cap) (omega (arith, l .inv .4)) (r .ensures .2) (l .inv .5),
+      λ tables ready.
+          valued-more tables (a .next .now) (l .marks) (l .cur) (a .v) (l .t) (k .result) (r .result) (omega arith)
+          (omega (arith, l .inv .3)) (omega (arith, l .inv .4)) (l .inv .6 tables ready)
+          (valued ready (a .next .now) (a .v) (l .t) (k .result) (r .result) (omega arith) (k .ensures .0 tables ready) (r .ensures .0)
+          (r .ensures .1)),
+    )
+
+same-length : tie.Need-same-length Inv-loop μ-loop
+same-length c = omega (arith, c .before .loop .inv .3, c .before .before .before .before .pre .1)
+
+returns : tie.Need-returns Inv-loop μ-loop
+returns c = let i = c .before .loop .inv in (λ tables ready u a b. i .6 tables ready u a (omega arith), (i .4, i .5))
+
+pub values-spec : {M : Type 1} → statement M
+values-spec =
+    tie.close
+    (tie.spec
+    Inv-loop
+    μ-loop
+    loop-holds
+    nearest-requires
+    value-cost-requires
+    mul-cur
+    array-write-cur
+    cast-marks
+    sub-marks
+    slice-write-marks
+    add-t
+    loop-less
+    loop-again
+    same-length
+    returns)

@@ -1,0 +1,334 @@
+// The search for the shortest stream (the third demand; 01, Refusal numbers 15 and 16): from the last sample to the first, what the
+// values from there on cost from each table on, and the structure with which the best stream begins.
+ghost use mathlib.Core.Path.{_≡_};
+ghost use mathlib.Core.Bool.{true, false};
+ghost use mathlib.Core.List.{List};
+ghost use mathlib.Core.Logic.{_⊎_};
+ghost use Prim.Native.Nat.{ℕ, suc, _+_, _-_, _*_, _<_, _≤_};
+ghost use lib.IntN.{ℤ};
+ghost use lib.ListN.{length, getD};
+ghost use Rattle.bits.specs.InnerRaised.{lower};
+ghost use Rattle.samples.specs.Differences.{differences};
+ghost use Rattle.tables.specs.declared.Structure.{Structure};
+ghost use Rattle.tables.specs.Structures.{structureRight};
+ghost use Rattle.compiled.specs.InnerForm.{formOf, Ready};
+ghost use Rattle.paths.specs.InnerPaths.{gives, join as joinOf, Exact};
+ghost use Rattle.shortest.specs.InnerRule.{kindOf, structureOf, rule};
+ghost use Rattle.search.specs.InnerSearch.{FilledBy, cap, Planned, countOf, formIn, bitsOf, rankIn, Within, Place, at, leapOf, Served, ValuedTo, LeastOf, Settled, Smaller, Picked, PickedFrom, Layer, Nine};
+use compiled::Form;
+
+// One more than the bits of 65,535 bytes, where costs stop.
+const CAP: usize = 524281;
+
+// There is no stream.
+const NONE: usize = 524282;
+
+// A code of so many bits, where what is left costs a.
+fn join(bits: usize, a: usize) -> usize
+    requires { ⌜ bits ≤ 48 ⌝ }
+    ensures { λ r. ⌜ r ≡ joinOf cap bits a ⌝ }
+{
+    if CAP < a {
+        return NONE;
+    }
+    let sum = bits + a;
+    if sum < CAP {
+        return sum;
+    }
+    CAP
+}
+
+// How many structures table t has.
+fn count(tab: &[u32], t: usize) -> usize
+    requires { ⌜ Within (now tab) t ⌝ }
+    ensures { λ r. ⌜ (r ≡ countOf (now (tab .entry)) t) × (r ≤ 64) ⌝ }
+{
+    tab[(t - 1) * 385] as usize
+}
+
+// The bits of a code of structure k of table t.
+fn bits_of(tab: &[u32], t: usize, k: usize) -> usize
+    requires { ⌜ Within (now tab) t × (k < countOf (now tab) t) ⌝ }
+    ensures { λ r. ⌜ (r ≡ bitsOf (now (tab .entry)) t k) × (r ≤ 48) ⌝ }
+{
+    let f = compiled::form_at(tab, t - 1, k);
+    f.prefix + f.remainder
+}
+
+// The place of a word among those of its table.
+fn rank(tab: &[u32], t: usize, k: usize) -> usize
+    requires { ⌜ Within (now tab) t × (k < countOf (now tab) t) ⌝ }
+    ensures { λ r. ⌜ r ≡ rankIn (now (tab .entry)) t k ⌝ }
+{
+    let f = compiled::form_at(tab, t - 1, k);
+    f.word * tables::power(32 - f.prefix)
+}
+
+// Of structure k and another, or none, the one with the smaller word.
+fn smaller(tab: &[u32], t: usize, k: usize, best: usize) -> usize
+    requires { ⌜ Within (now tab) t × (k < countOf (now tab) t) × Place (now tab) t best ⌝ }
+    ensures { λ r. ⌜ Smaller (now (tab .entry)) t k best r ⌝ }
+{
+    if best == 64 {
+        return k;
+    }
+    if rank(tab, t, k) < rank(tab, t, best) {
+        return k;
+    }
+    best
+}
+
+// A structure's form has a code for the value, 131,072 added.
+fn serves(f: Form, v: usize) -> bool
+    ensures { λ r. ⌜ ((n : ℕ) (c : Structure) → structureRight n c ≡ true → c .base < 65536 → formOf c ≡ f → (r ≡ true → kindOf c (lower 131072 v) ≡ gives) × (r ≡ false → kindOf c (lower 131072 v) ≡ gives → ⊥)) ⌝ }
+{
+    if f.to != 0 {
+        return false;
+    }
+    if v < f.lo {
+        return false;
+    }
+    v < f.hi
+}
+
+// Structure k of table t, which serves the value, against the nearest of those before it.
+fn nearer(tab: &[u32], t: usize, k: usize, best: usize) -> usize
+    requires { ⌜ Within (now tab) t × (k < countOf (now tab) t) × Place (now tab) t best ⌝ }
+    ensures { λ r. ⌜ ((tables : List (List Structure)) (x : ℕ) → Ready tables (now (tab .entry)) → kindOf (structureOf tables t k) (lower 131072 x) ≡ gives → Served tables x t k best → Served tables x t (k + 1) r) × Place (now (tab .entry)) t r ⌝ }
+{
+    if best == 64 {
+        return k;
+    }
+    let a = bits_of(tab, t, k);
+    let b = bits_of(tab, t, best);
+    if a < b {
+        return k;
+    }
+    if b < a {
+        return best;
+    }
+    smaller(tab, t, k, best)
+}
+
+// The structure of table t that serves the value, 131,072 added, with the shortest code, and of those the smallest; 64 for none.
+fn nearest(tab: &[u32], t: usize, v: usize) -> usize
+    requires { ⌜ Within (now tab) t ⌝ }
+    ensures { λ r. ⌜ ((tables : List (List Structure)) → Ready tables (now (tab .entry)) → Served tables v t (countOf (now (tab .entry)) t) r) × Place (now (tab .entry)) t r ⌝ }
+{
+    let m = count(tab, t);
+    let mut best = 64;
+    let mut k = 0;
+    while k < m {
+        let f = compiled::form_at(tab, t - 1, k);
+        if serves(f, v) {
+            best = nearer(tab, t, k, best);
+        }
+        k += 1;
+    }
+    best
+}
+
+// What structure k of table t costs for the value; 64 is none.
+fn value_cost(tab: &[u32], t: usize, k: usize, next: &[usize; 9]) -> usize
+    requires { ⌜ Within (now tab) t × Place (now tab) t k ⌝ }
+    ensures { λ r. ⌜ (k ≡ 64 → r ≡ suc cap) × (k < 64 → r ≡ joinOf cap (bitsOf (now (tab .entry)) t k) (at (now (next .entry)) t)) × (r ≤ suc cap) ⌝ }
+{
+    if k == 64 {
+        return NONE;
+    }
+    join(bits_of(tab, t, k), next[t])
+}
+
+// The value's structure of each of the n tables goes to the marks; what it costs is given back.
+fn values(tab: &[u32], n: usize, v: usize, next: &[usize; 9], marks: &mut [u8]) -> [usize; 9]
+    requires { ⌜ FilledBy (now tab) n × (length (now marks) ≡ n) ⌝ }
+    ensures { λ r. ⌜ ((tables : List (List Structure)) → Ready tables (now (tab .entry)) → ValuedTo tables (now (next .entry)) v (now (marks .exit)) r (n + 1)) × Nine r ⌝ }
+{
+    let mut cur = [NONE; 9];
+    let mut t = 1;
+    while t <= n {
+        let k = nearest(tab, t, v);
+        cur[t] = value_cost(tab, t, k, next);
+        marks[t - 1] = k as u8;
+        t += 1;
+    }
+    cur
+}
+
+// What structure k of table t costs as a switch.
+fn leap(tab: &[u32], t: usize, k: usize, cur: &[usize; 9]) -> usize
+    requires { ⌜ Within (now tab) t × (k < countOf (now tab) t) ⌝ }
+    ensures { λ r. ⌜ r ≡ leapOf (now (tab .entry)) (now (cur .entry)) t k ⌝ }
+{
+    let f = compiled::form_at(tab, t - 1, k);
+    if f.to == 0 {
+        return NONE;
+    }
+    let to = f.to;
+    join(f.prefix + f.remainder, cur[to])
+}
+
+// The least that a switch of table t costs.
+fn relax(tab: &[u32], t: usize, cur: &[usize; 9]) -> usize
+    requires { ⌜ Within (now tab) t ⌝ }
+    ensures { λ r. ⌜ LeastOf (leapOf (now (tab .entry)) (now (cur .entry)) t) (countOf (now (tab .entry)) t) r ⌝ }
+{
+    let m = count(tab, t);
+    let mut least = NONE;
+    let mut k = 0;
+    while k < m {
+        let e = leap(tab, t, k, cur);
+        if e < least {
+            least = e;
+        }
+        k += 1;
+    }
+    least
+}
+
+// The table after t, round the n tables.
+fn following(t: usize, n: usize) -> usize
+    requires { ⌜ (1 ≤ t) × (t ≤ n) × (n ≤ 8) ⌝ }
+    ensures { λ r. ⌜ (((t < n) × (r ≡ t + 1)) ⊎ ((t ≡ n) × (r ≡ 1))) × (1 ≤ r) × (r ≤ n) ⌝ }
+{
+    if t < n {
+        return t + 1;
+    }
+    1
+}
+
+// Switches make costs smaller, in rounds, until n tables in a row do not change. After so many rounds every table is settled whose
+// cheapest way has so many switches, and a cheapest way comes to no table twice: so n rounds are enough, the last of them to see it.
+fn settle(tab: &[u32], n: usize, first: [usize; 9]) -> [usize; 9]
+    requires { ⌜ FilledBy (now tab) n × (length first ≡ 9) ⌝ }
+    ensures { λ r. ⌜ Settled (now (tab .entry)) n first r ⌝ }
+{
+    let mut cur = first;
+    let mut t = 1;
+    let mut quiet = 0usize;
+    while quiet < n {
+        let here = t;
+        let r = relax(tab, here, &cur);
+        t = following(here, n);
+        if r < cur[here] {
+            cur[here] = r;
+            quiet = 0;
+        } else {
+            quiet += 1;
+        }
+    }
+    cur
+}
+
+// Of the structure `start` of table t, or none, and the switches that cost what the table does, the one with the smallest word.
+fn choose(tab: &[u32], t: usize, start: usize, cur: &[usize; 9]) -> usize
+    requires { ⌜ Within (now tab) t × Place (now tab) t start ⌝ }
+    ensures { λ r. ⌜ Picked (now (tab .entry)) (now (cur .entry)) t start (countOf (now (tab .entry)) t) r ⌝ }
+{
+    let m = count(tab, t);
+    let want = cur[t];
+    let mut best = start;
+    let mut k = 0;
+    while k < m {
+        if leap(tab, t, k, cur) == want {
+            best = smaller(tab, t, k, best);
+        }
+        k += 1;
+    }
+    best
+}
+
+// The structure with which table t's best stream begins, where the value's is `near`.
+fn pick(tab: &[u32], t: usize, near: usize, first: &[usize; 9], cur: &[usize; 9]) -> usize
+    requires { ⌜ Within (now tab) t × Place (now tab) t near ⌝ }
+    ensures { λ r. ⌜ PickedFrom (now (tab .entry)) (now (first .entry)) (now (cur .entry)) t near r ⌝ }
+{
+    if first[t] == cur[t] {
+        return choose(tab, t, near, cur);
+    }
+    choose(tab, t, 64, cur)
+}
+
+// Among the marks of the n tables, the value's structures, those of the settled costs.
+fn mark(tab: &[u32], n: usize, first: &[usize; 9], cur: &[usize; 9], marks: &mut [u8])
+    requires { ⌜ FilledBy (now tab) n × (length (now marks) ≡ n) × ((t : ℕ) → 1 ≤ t → t ≤ n → Place (now tab) t (getD (now marks) (t - 1) 0)) ⌝ }
+    ensures { λ _. ⌜ ((t : ℕ) → 1 ≤ t → t ≤ n → PickedFrom (now (tab .entry)) (now (first .entry)) (now (cur .entry)) t (getD (now (marks .entry)) (t - 1) 0) (getD (now (marks .exit)) (t - 1) 0)) ⌝ }
+{
+    let mut t = 1;
+    while t <= n {
+        marks[t - 1] = pick(tab, t, marks[t - 1] as usize, first, cur) as u8;
+        t += 1;
+    }
+}
+
+// Whether table t has a switch.
+fn switches(tab: &[u32], t: usize) -> bool
+    requires { ⌜ Within (now tab) t ⌝ }
+    ensures { λ r. ⌜ (r ≡ false → (k : ℕ) → k < countOf (now (tab .entry)) t → formIn (now (tab .entry)) t k .to ≡ 0) ⌝ }
+{
+    let m = count(tab, t);
+    let mut k = 0;
+    while k < m {
+        if compiled::form_at(tab, t - 1, k).to != 0 {
+            return true;
+        }
+        k += 1;
+    }
+    false
+}
+
+// Whether any of the n tables has a switch.
+fn has_switch(tab: &[u32], n: usize) -> bool
+    requires { ⌜ FilledBy (now tab) n ⌝ }
+    ensures { λ r. ⌜ (r ≡ false → (t k : ℕ) → 1 ≤ t → t ≤ n → k < countOf (now (tab .entry)) t → formIn (now (tab .entry)) t k .to ≡ 0) ⌝ }
+{
+    let mut t = 1;
+    while t <= n {
+        if switches(tab, t) {
+            return true;
+        }
+        t += 1;
+    }
+    false
+}
+
+// The costs from a value on, from those behind it, and the marks of its n tables. Without switches the value's structures are all.
+fn layer(
+    tab: &[u32],
+    n: usize,
+    v: usize,
+    any: bool,
+    next: &[usize; 9],
+    marks: &mut [u8],
+) -> [usize; 9]
+    requires { ⌜ FilledBy (now tab) n × (length (now marks) ≡ n) ⌝ }
+    requires { ⌜ (any ≡ false → (t k : ℕ) → 1 ≤ t → t ≤ n → k < countOf (now tab) t → formIn (now tab) t k .to ≡ 0) ⌝ }
+    ensures { λ r. ⌜ ((tables : List (List Structure)) (vs : List ℤ) → Ready tables (now (tab .entry)) → length tables ≡ n → Exact (rule tables) cap vs (at (now (next .entry))) → Layer tables (lower 131072 v) vs r (now (marks .exit))) × Nine r ⌝ }
+{
+    let first = values(tab, n, v, next, marks);
+    if any {
+        let cur = settle(tab, n, first);
+        mark(tab, n, &first, &cur, marks);
+        return cur;
+    }
+    first
+}
+
+// The bits of the shortest stream for the samples' differences: 524,281 stands for that many and more, 524,282 for no stream. The first
+// steps of the best streams go to the work space, a byte for each sample and table.
+pub fn plan(tab: &[u32], n: usize, xs: &[i16], order: usize, work: &mut [u8]) -> usize
+    requires { ⌜ FilledBy (now tab) n × (length (now xs) ≤ 65536) × (length (now xs) * n ≤ length (now work)) ⌝ }
+    ensures { λ r. ⌜ ((tables : List (List Structure)) → Ready tables (now (tab .entry)) → length tables ≡ n → Planned tables (differences order (now (xs .entry))) (now (work .exit)) r) × (length (now (work .exit)) ≡ length (now (work .entry))) × (r ≤ 524282) ⌝ }
+{
+    let any = has_switch(tab, n);
+    let mut next = [0usize; 9];
+    let mut i = xs.len();
+    while 0 < i {
+        i -= 1;
+        let v = samples::value_at(xs, order, i);
+        let from = i * n;
+        let to = from + n;
+        next = layer(tab, n, v, any, &next, &mut work[from..to]);
+    }
+    next[1]
+}
