@@ -1,0 +1,8 @@
+-- The byte counts in Section 6's data, by the numbers alone: the streams are put behind them later.
+use Prim.Native.Nat.{ℕ}
+use mathlib.Core.List.{List, [], _∷_, _++_}
+use Rattle.wire.specs.Numbers.{bytesOf}
+
+unfoldable pub byteCounts : List ℕ → List ℕ
+byteCounts [] = []
+byteCounts (n ∷ ns) = bytesOf 2 n ++ byteCounts ns

@@ -1,0 +1,108 @@
+-- The bytes of a record as the writer writes it (01, The record; 01, Leads and samples; 01, Refusal numbers, the paragraphs under the table):
+-- twelve pointers, present sections in rising ID without gaps, one version byte in both places, 0 in reserved and spare bytes.
+use Prim.Native.Nat.{ℕ, zero, suc, _+_, _-_, _%_}
+use mathlib.Core.Bool.{cond}
+use mathlib.Core.List.{List, [], _∷_, _++_}
+use lib.Dec.{eqb}
+use lib.ListN.{length, replicate}
+use Rattle.wire.specs.Numbers.{bytesOf}
+use Rattle.wire.specs.Check.{crcOf}
+
+-- ---- a section
+
+-- data with one spare byte where their number is odd, since a section's length is even
+unfoldable pub evened : List ℕ → List ℕ
+evened contents = contents ++ replicate (length contents % 2) 0
+
+-- a section's length, with its header
+abbrev pub sizeFor : ℕ → ℕ
+sizeFor count = 16 + count + count % 2
+
+-- the check over the bytes that follow it, and these
+unfoldable pub checked : List ℕ → List ℕ
+checked body = bytesOf 2 (crcOf body) ++ body
+
+-- check (2), ID (2), length (4), section version (1), protocol version (1), reserved (6), then the data
+unfoldable pub sectionBytes : ℕ → ℕ → List ℕ → List ℕ → List ℕ
+sectionBytes id version reserved contents =
+    checked (bytesOf 2 id ++ (bytesOf 4 (sizeFor (length contents)) ++ (version ∷ (version ∷ (reserved ++ evened contents)))))
+
+-- six bytes of 0; in Section 0 the letters SCPECG
+abbrev pub noLetters : List ℕ
+noLetters = 0 ∷ (0 ∷ (0 ∷ (0 ∷ (0 ∷ (0 ∷ [])))))
+
+abbrev pub letters : List ℕ
+letters = 83 ∷ (67 ∷ (80 ∷ (69 ∷ (67 ∷ (71 ∷ [])))))
+
+-- ---- the data of Sections 3 and 6
+
+-- a lead's first sample (4), last sample (4) and ID (1)
+unfoldable pub entriesOf : List ℕ → List ℕ → List ℕ → List ℕ
+entriesOf [] counts ids = []
+entriesOf (first ∷ firsts) [] ids = []
+entriesOf (first ∷ firsts) (count ∷ counts) [] = []
+entriesOf (first ∷ firsts) (count ∷ counts) (id ∷ ids) =
+    bytesOf 4 first ++ (bytesOf 4 (first + count - 1) ++ (id ∷ entriesOf firsts counts ids))
+
+-- the number of leads, the flags with bit 0 cleared, and the leads' entries
+unfoldable pub leadsData : ℕ → List ℕ → List ℕ → List ℕ → List ℕ
+leadsData flags firsts counts ids = length counts ∷ ((flags - flags % 2) ∷ entriesOf firsts counts ids)
+
+-- the byte counts of the leads' streams, and the streams one after another
+unfoldable pub countsOf : List (List ℕ) → List ℕ
+countsOf [] = []
+countsOf (stream ∷ streams) = bytesOf 2 (length stream) ++ countsOf streams
+
+unfoldable pub joined : List (List ℕ) → List ℕ
+joined [] = []
+joined (stream ∷ streams) = stream ++ joined streams
+
+-- step (2), interval (2), difference order (1), bimodal, which is 0 (1), byte counts, streams
+unfoldable pub streamsData : ℕ → ℕ → ℕ → List (List ℕ) → List ℕ
+streamsData step interval order streams =
+    bytesOf 2 step ++ (bytesOf 2 interval ++ (order ∷ (0 ∷ (countsOf streams ++ joined streams))))
+
+-- ---- the record
+
+-- a pointer: ID (2), length (4), index of the first byte (4)
+unfoldable pub pointerBytes : ℕ → ℕ → ℕ → List ℕ
+pointerBytes id size index = bytesOf 2 id ++ (bytesOf 4 size ++ bytesOf 4 index)
+
+-- an absent section's pointer has length 0 and index 0
+abbrev pub absent : ℕ → List ℕ
+absent id = pointerBytes id 0 0
+
+-- the twelve pointers, by the lengths of Sections 1, 2 (0 where it is absent), 3 and 6: Section 0 has 136 bytes and index 7, and each
+-- present section stands behind the one before
+unfoldable pub pointersData : ℕ → ℕ → ℕ → ℕ → List ℕ
+pointersData size1 size2 size3 size6 =
+    pointerBytes 0 136 7
+    ++ (pointerBytes 1 size1 143
+    ++ (cond (eqb size2 0) (absent 2) (pointerBytes 2 size2 (143 + size1))
+    ++ (pointerBytes 3 size3 (143 + size1 + size2)
+    ++ (absent 4
+    ++ (absent 5
+    ++ (pointerBytes 6 size6 (143 + size1 + size2 + size3)
+    ++ (absent 7 ++ (absent 8 ++ (absent 9 ++ (absent 10 ++ absent 11))))))))))
+
+-- a Section 2 that is not given has no bytes
+abbrev pub givenSize : ℕ → ℕ
+givenSize count = cond (eqb count 0) 0 (sizeFor count)
+
+unfoldable pub givenSection : ℕ → List ℕ → List ℕ
+givenSection version contents = cond (eqb (length contents) 0) [] (sectionBytes 2 version noLetters contents)
+
+-- the record's length, by those of its data
+abbrev pub recordSize : ℕ → ℕ → ℕ → ℕ → ℕ
+recordSize count1 count2 count3 count6 = 142 + sizeFor count1 + givenSize count2 + sizeFor count3 + sizeFor count6
+
+-- check (2), record size (4), Section 0 and the others
+unfoldable pub recordBytes : ℕ → List ℕ → List ℕ → List ℕ → List ℕ → List ℕ
+recordBytes version data1 data2 data3 data6 =
+    checked
+    (bytesOf 4 (recordSize (length data1) (length data2) (length data3) (length data6))
+    ++ (sectionBytes 0 version letters
+    (pointersData (sizeFor (length data1)) (givenSize (length data2)) (sizeFor (length data3)) (sizeFor (length data6)))
+    ++ (sectionBytes 1 version noLetters data1
+    ++ (givenSection version data2
+    ++ (sectionBytes 3 version noLetters data3 ++ sectionBytes 6 version noLetters data6)))))

@@ -1,0 +1,5 @@
+pub mod Layout
+pub mod Counts
+pub mod InnerHeader
+pub mod InnerPointers
+pub mod InnerLeads
