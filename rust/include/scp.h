@@ -8,8 +8,10 @@
  * What holds for every call:
  *   - Lent bytes are a pointer and a length. A call reads and writes nothing outside them.
  *   - Any bytes and any numbers may be given, and every call ends.
- *   - `refusal` is 0 (accepted) or the number of the rule that is broken, the smallest if there are several (below).
- *   - With a refusal every other field of the answer is 0 and no lent byte is changed, but for work space (scp_read_lead).
+ *   - `refusal` is 0 (accepted) or the number of the rule that is broken, the smallest if there are several (below);
+ *     where a call says an order of its own, the first in that order.
+ *   - With a refusal every other field of the answer is 0 and no lent byte is changed, but for work space (scp_read_lead,
+ *     scp_encode_lead).
  *   - Places of bytes (`start`, `next`, `at`) count from 0; an occurrence and a lead's place count from 1.
  *     A pointer's index is as the record stores it: it counts the record's bytes from 1.
  *
@@ -28,6 +30,9 @@
  *   12  a value's code matches nothing, or the stream ends in it
  *   13  a sample does not fit 16 bits
  *   14  8 or more bits are left after the last sample
+ *   15  no stream reads to these samples
+ *   16  the shortest stream has more than 65,535 bytes
+ *   17  0 or more than 65,536 samples are to be coded, or the order is over 2
  */
 #ifndef SCP_H
 #define SCP_H
@@ -48,6 +53,12 @@ extern "C" {
 
 /* The most leads that a record has. */
 #define SCP_LEADS_MAX 32
+
+/* The most tables that Section 2 has: so many bytes of work space for each sample to be coded are always enough. */
+#define SCP_TABLES_MAX 8
+
+/* The most bytes that a lead's stream has: so much room for one is always enough. */
+#define SCP_STREAM_MAX 65535
 
 /* What opening a record answers. */
 typedef struct {
@@ -81,6 +92,12 @@ typedef struct {
     uint32_t first, last;  /* the numbers of the first and the last sample */
     uint32_t leads, bytes; /* how many leads the record has, and how many bytes this one's stream has in Section 6 */
 } ScpEntry;
+
+/* A lead that was coded; its stream is in the output. */
+typedef struct {
+    uint8_t refusal;
+    uint32_t bytes, bits; /* how many bytes the stream has, and how many bits of them its codes take: the rest are 0 */
+} ScpCoded;
 
 /* CRC-CCITT of n bytes: polynomial 1021 hex, preset FFFF, most significant bit first, no final change. Never refused. */
 uint16_t scp_crc(const uint8_t *p, size_t n);
@@ -134,6 +151,24 @@ ScpEntry scp_lead(const uint8_t *record, size_t n, size_t place);
  * where the rules of all smaller rows are kept; of other bytes it is 0 or 1, and no more. Never refused.
  */
 uint8_t scp_breaks(const uint8_t *record, size_t n, uint8_t row);
+
+/*
+ * Codes the samples of a lead, 1 to 65,536 of them, by differences of order 0, 1 or 2. `section2` is Section 2's data with
+ * no spare byte; empty data mean that there is no Section 2, and each value then takes two bytes.
+ *
+ * The stream is the shortest: of all that a reader takes to these samples, starting in table 1, it has the fewest bits,
+ * switches counted, and of those equally short it is the one that is smaller at the first differing bit. The first `bytes`
+ * bytes of the output are changed and no others; none on refusal. The bits that fill up the last byte are 0.
+ *
+ * Work space is needed where there is a Section 2: one byte for each sample times each table, tables that are never
+ * reached counted; the default table is one. All of what was lent, however long, is zeros once the search has begun: with
+ * refusals 15, 16 and 11 for the output, and with acceptance. Otherwise, and always without Section 2, it is untouched.
+ * Output and work space are lent apart: they share no byte with each other, nor with what is read.
+ *
+ * Refusals, the first that applies: 17, 7, 11 for the work space, 15, 16, 11 for the output.
+ */
+ScpCoded scp_encode_lead(const uint8_t *section2, size_t n2, const int16_t *samples, size_t n, uint8_t order,
+                         uint8_t *work, size_t work_n, uint8_t *out, size_t out_n);
 
 #ifdef __cplusplus
 }

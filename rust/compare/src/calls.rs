@@ -21,7 +21,7 @@ const LOOKUPS: usize = 4;
 /// Makes every call on an input, by the library and by the judge.
 pub fn compare(input: &[u8], rng: &mut Rng, tally: &mut Tally) -> Result<(), Difference> {
     let lent = Lent::new(input, rng);
-    let record = lent.bytes();
+    let record = lent.lent();
     open(record, rng, tally)?;
     walk(record, rng, tally)?;
     fields(record, rng, tally)?;

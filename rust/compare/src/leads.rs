@@ -8,7 +8,7 @@ use scp::raw;
 
 use crate::calls::{hold, number, same, Difference};
 use crate::draft;
-use crate::lent::Samples;
+use crate::lent::Space;
 use crate::tally::{Call, Tally};
 
 /// The places asked for in every record: all that a lead can have, and one on each side.
@@ -185,8 +185,8 @@ fn read_as_judged(
     rng: &mut Rng,
     tally: &mut Tally,
 ) -> Result<(), Difference> {
-    let mut out = Samples::new(out_n, rng);
-    let mut work = Samples::new(work_n, rng);
+    let mut out = Space::<i16>::new(out_n, rng);
+    let mut work = Space::<i16>::new(work_n, rng);
     // SAFETY: all three are lent for the call, which only reads the record; no two of them share memory.
     let lead = unsafe {
         let (out, work) = (out.lent(), work.lent());

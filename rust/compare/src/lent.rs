@@ -7,35 +7,53 @@ use judge::make::Rng;
 /// The elements of each guard.
 const GUARD: usize = 16;
 
-/// Bytes to lend, at any alignment, between guards. They must come back as they were.
-pub struct Lent {
-    memory: Vec<u8>,
-    before: Vec<u8>,
+/// What is lent: bytes, or samples.
+pub trait Element: Copy + PartialEq + Default {
+    /// The element that a number stands for: never 0, so that clearing is always seen.
+    fn of(number: u64) -> Self;
+}
+
+impl Element for u8 {
+    fn of(number: u64) -> u8 {
+        number as u8 | 1
+    }
+}
+
+impl Element for i16 {
+    fn of(number: u64) -> i16 {
+        number as i16 | 1
+    }
+}
+
+/// Elements to lend, at any alignment, between guards. They must come back as they were.
+pub struct Lent<T> {
+    memory: Vec<T>,
+    before: Vec<T>,
     start: usize,
     length: usize,
 }
 
-impl Lent {
-    /// Lends a copy of these bytes.
-    pub fn new(bytes: &[u8], rng: &mut Rng) -> Lent {
+impl<T: Element> Lent<T> {
+    /// Lends a copy of these elements.
+    pub fn new(elements: &[T], rng: &mut Rng) -> Lent<T> {
         let start = GUARD + rng.below(8);
-        let mut memory = rng.bytes(start);
-        memory.extend(bytes);
-        memory.extend(rng.bytes(GUARD));
+        let mut memory: Vec<T> = (0..start).map(|_| T::of(rng.number())).collect();
+        memory.extend(elements);
+        memory.extend((0..GUARD).map(|_| T::of(rng.number())));
         Lent {
             before: memory.clone(),
             memory,
             start,
-            length: bytes.len(),
+            length: elements.len(),
         }
     }
 
     /// What is lent.
-    pub fn bytes(&self) -> &[u8] {
+    pub fn lent(&self) -> &[T] {
         &self.memory[self.start..self.start + self.length]
     }
 
-    /// Whether bytes and guards are as they were.
+    /// Whether elements and guards are as they were.
     pub fn is_untouched(&self) -> bool {
         self.memory == self.before
     }
@@ -71,23 +89,23 @@ impl Room {
     }
 }
 
-/// Room for samples, of any length and at any alignment, between guards: an output or a work space.
+/// Space to write in, of any length and at any alignment, between guards: an output or a work space.
 ///
 /// What stands in it before a call is a pattern that can be told again, so that no copy of it is kept.
-pub struct Samples {
-    memory: Vec<i16>,
+pub struct Space<T> {
+    memory: Vec<T>,
     start: usize,
     length: usize,
     seed: u64,
 }
 
-impl Samples {
-    /// Room for so many samples.
-    pub fn new(length: usize, rng: &mut Rng) -> Samples {
+impl<T: Element> Space<T> {
+    /// Space for so many elements.
+    pub fn new(length: usize, rng: &mut Rng) -> Space<T> {
         let start = GUARD + rng.below(8);
         let seed = rng.number() | 1;
         let whole = start + length + GUARD;
-        Samples {
+        Space {
             memory: (0..whole).map(|at| pattern(seed, at)).collect(),
             start,
             length,
@@ -96,14 +114,14 @@ impl Samples {
     }
 
     /// What is lent.
-    pub fn lent(&mut self) -> &mut [i16] {
+    pub fn lent(&mut self) -> &mut [T] {
         &mut self.memory[self.start..self.start + self.length]
     }
 
     /// Whether the first elements are now these, and all else is as it was.
-    pub fn holds(&self, samples: &[i16]) -> bool {
-        let end = self.start + samples.len();
-        self.memory[self.start..end] == *samples
+    pub fn holds(&self, elements: &[T]) -> bool {
+        let end = self.start + elements.len();
+        self.memory[self.start..end] == *elements
             && self.is_as_it_was(0..self.start)
             && self.is_as_it_was(end..self.memory.len())
     }
@@ -116,7 +134,8 @@ impl Samples {
     /// Whether all that was lent is now zeros, and the guards are as they were.
     pub fn is_cleared(&self) -> bool {
         let end = self.start + self.length;
-        self.memory[self.start..end].iter().all(|&one| one == 0)
+        let lent = &self.memory[self.start..end];
+        lent.iter().all(|&one| one == T::default())
             && self.is_as_it_was(0..self.start)
             && self.is_as_it_was(end..self.memory.len())
     }
@@ -126,28 +145,40 @@ impl Samples {
     }
 }
 
-/// The element at a place of the pattern: never 0, so that clearing is always seen.
-fn pattern(seed: u64, at: usize) -> i16 {
-    (seed.wrapping_mul(2 * at as u64 + 1) >> 40) as i16 | 1
+/// The element at a place of the pattern.
+fn pattern<T: Element>(seed: u64, at: usize) -> T {
+    T::of(seed.wrapping_mul(2 * at as u64 + 1) >> 40)
 }
 
 #[cfg(test)]
 mod tests {
-    use super::Samples;
+    use super::{Element, Lent, Space};
     use judge::make::Rng;
+
+    fn every_change_is_seen_in<T: Element>(seven: T, nine: T) {
+        let rng = &mut Rng::new(1);
+        let zero = T::default();
+        let mut space = Space::new(5, rng);
+        assert!(space.is_untouched() && !space.is_cleared());
+        space.lent()[..2].copy_from_slice(&[seven, nine]);
+        assert!(space.holds(&[seven, nine]) && !space.holds(&[seven]) && !space.is_untouched());
+        space.lent().fill(zero);
+        assert!(space.is_cleared() && space.holds(&[zero; 5]));
+        let guard = space.start - 1;
+        space.memory[guard] = zero;
+        assert!(!space.is_cleared() && !space.holds(&[zero; 5]));
+        let none = Space::<T>::new(0, rng);
+        assert!(none.is_untouched() && none.is_cleared());
+    }
 
     #[test]
     fn every_change_is_seen() {
-        let rng = &mut Rng::new(1);
-        let mut room = Samples::new(5, rng);
-        assert!(room.is_untouched() && !room.is_cleared());
-        room.lent()[..2].copy_from_slice(&[7, 9]);
-        assert!(room.holds(&[7, 9]) && !room.holds(&[7]) && !room.is_untouched());
-        room.lent().fill(0);
-        assert!(room.is_cleared() && room.holds(&[0; 5]));
-        let guard = room.start - 1;
-        room.memory[guard] ^= 1;
-        assert!(!room.is_cleared() && !room.holds(&[0; 5]));
-        assert!(Samples::new(0, rng).is_untouched() && Samples::new(0, rng).is_cleared());
+        every_change_is_seen_in(7u8, 9);
+        every_change_is_seen_in(7i16, 9);
+        let mut lent = Lent::new(&[7u8, 0, 9], &mut Rng::new(1));
+        assert!(lent.is_untouched() && lent.lent() == [7, 0, 9]);
+        let end = lent.memory.len() - 1;
+        lent.memory[end] = 0;
+        assert!(!lent.is_untouched());
     }
 }

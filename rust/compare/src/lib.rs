@@ -2,25 +2,30 @@
 //!
 //! Inputs are made by the judge's generator from a seed ([`inputs`]), or laid out by hand at the edges of the rules
 //! ([`edges`]) and at their ends ([`extremes`]); every call is made by both on each of them, in memory with guards around
-//! it ([`calls`]); and every answer is counted ([`tally`]).
+//! it ([`calls`], [`encoding`]); and every answer is counted ([`tally`]). On tiny leads the encoder is held against all
+//! streams that there are ([`encoding::brute`]).
 
 pub mod calls;
 mod draft;
 pub mod edges;
+pub mod encoding;
 pub mod extremes;
 pub mod inputs;
 mod leads;
 mod lent;
-mod rhythm;
+pub mod rhythm;
 pub mod samples;
 pub mod tally;
 
-use judge::make::Rng;
+use judge::make::{self, Rng};
 
 use inputs::Kind;
 use tally::Tally;
 
-/// Compares on `count` inputs that the seed fixes. The counts, or what differs first and on which input.
+/// With one in so many inputs there comes a lead to encode.
+const LEADS: u64 = 4;
+
+/// Compares on `count` inputs that the seed fixes, and on leads to encode. The counts, or what differs first and on which input.
 pub fn run(seed: u64, count: u64) -> Result<Tally, String> {
     let mut tally = Tally::default();
     for number in 0..count {
@@ -30,6 +35,12 @@ pub fn run(seed: u64, count: u64) -> Result<Tally, String> {
         tally.input(kind);
         calls::compare(&input, &mut rng, &mut tally)
             .map_err(|difference| format!("seed {seed}, input {number} ({kind}): {difference}"))?;
+        if number % LEADS == 0 {
+            let lead = make::to_encode(&mut rng);
+            encoding::compare(&lead, &mut rng, &mut tally).map_err(|difference| {
+                format!("seed {seed}, lead to encode with input {number}: {difference}")
+            })?;
+        }
     }
     Ok(tally)
 }

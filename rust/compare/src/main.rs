@@ -3,6 +3,7 @@
 use std::process::ExitCode;
 
 use clap::Parser;
+use compare::encoding::brute;
 
 /// Hold the proved library against the judge on inputs that a seed fixes.
 #[derive(Parser)]
@@ -13,18 +14,23 @@ struct Cli {
     /// How many of them
     #[arg(long, value_name = "N", default_value_t = 20_000)]
     count: u64,
+    /// How many sets of small tables, to hold the encoder against all streams
+    #[arg(long, value_name = "N", default_value_t = 40_000)]
+    sets: u64,
 }
 
 fn main() -> ExitCode {
-    let Cli { seed, count } = Cli::parse();
-    match compare::run(seed, count) {
-        Ok(tally) => {
-            println!("{tally}");
-            ExitCode::SUCCESS
-        }
+    match run(&Cli::parse()) {
+        Ok(()) => ExitCode::SUCCESS,
         Err(difference) => {
             eprintln!("compare: {difference}");
             ExitCode::FAILURE
         }
     }
+}
+
+fn run(cli: &Cli) -> Result<(), String> {
+    println!("{}", compare::run(cli.seed, cli.count)?);
+    println!("{}", brute::run(cli.seed, cli.sets)?);
+    Ok(())
 }

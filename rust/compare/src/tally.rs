@@ -28,6 +28,10 @@ pub enum Call {
     ReadLead,
     /// `scp_read_lead`, with the work space cleared: the reading of a beat had begun
     ReadLeadWithBeat,
+    /// `scp_encode_lead`, with the work space untouched
+    EncodeLead,
+    /// `scp_encode_lead`, with the work space cleared: the search had begun
+    EncodeLeadSearched,
 }
 
 /// How many inputs of each kind there were, and how often each call answered what.
@@ -37,6 +41,8 @@ pub struct Tally {
     answers: BTreeMap<(Call, u8), u64>,
     samples: u64,
     every_place: u64,
+    to_encode: u64,
+    bits: u64,
 }
 
 impl Tally {
@@ -60,6 +66,16 @@ impl Tally {
         self.every_place += 1;
     }
 
+    /// Counts a lead to encode.
+    pub fn to_encode(&mut self) {
+        self.to_encode += 1;
+    }
+
+    /// Counts the bits of a stream that was encoded.
+    pub fn bits(&mut self, count: u32) {
+        self.bits += u64::from(count);
+    }
+
     /// The numbers among these that a call never answered.
     pub fn never_reached(&self, call: Call, numbers: &[u8]) -> Vec<u8> {
         let reached = |number| self.answers.contains_key(&(call, number));
@@ -78,11 +94,16 @@ impl fmt::Display for Tally {
             .collect();
         writeln!(f, "compare: {total} inputs ({})", kinds.join(", "))?;
         for (call, count, words) in self.calls() {
-            writeln!(f, "  {:17}{count:>9}  {words}", format!("{call:?}"))?;
+            writeln!(f, "  {:19}{count:>9}  {words}", format!("{call:?}"))?;
         }
         let all: u64 = self.answers.values().sum();
         let (samples, records) = (self.samples, self.every_place);
         writeln!(f, "compare: {records} records asked for every place")?;
+        writeln!(
+            f,
+            "compare: {} leads to encode, streams of {} bits in all",
+            self.to_encode, self.bits
+        )?;
         write!(
             f,
             "compare: {all} answers, with {samples} samples, all as the judge's"

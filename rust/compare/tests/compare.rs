@@ -1,15 +1,20 @@
-//! The library against the judge on 20,480 inputs, always the same; every row of the table that each call can give is
-//! reached. It has no test harness, so that its counts are always shown.
+//! The library against the judge on 20,480 inputs and 5,120 leads to encode, always the same; every row of the table that
+//! each call can give is reached. Then the encoder against all streams, on 40,000 sets of small tables. It has no test
+//! harness, so that its counts are always shown.
 
 use std::process::exit;
 
+use compare::encoding::brute;
 use compare::tally::Call;
 
 const SEED: u64 = 2001;
 const COUNT: u64 = 20_480;
+const SETS: u64 = 40_000;
+/// At least so many of the sets have each thing that makes the choice of a stream hard.
+const ENOUGH: u64 = 10_000;
 
 /// What each call can answer: 0, and the refusals.
-const ROWS: [(Call, &[u8]); 7] = [
+const ROWS: [(Call, &[u8]); 9] = [
     (Call::Open, &[0, 1, 2, 3, 4, 5, 6]),
     (Call::Field, &[0, 1, 2, 3, 4, 5, 6, 10]),
     (Call::WalkStart, &[0, 1, 2, 3, 4, 5, 6]),
@@ -20,6 +25,8 @@ const ROWS: [(Call, &[u8]); 7] = [
         &[0, 1, 2, 3, 4, 5, 6, 7, 8, 9, 10, 11, 12, 13, 14],
     ),
     (Call::ReadLeadWithBeat, &[0, 12, 13, 14]),
+    (Call::EncodeLead, &[0, 7, 11, 15, 16, 17]),
+    (Call::EncodeLeadSearched, &[0, 11, 15, 16]),
 ];
 
 fn main() {
@@ -34,5 +41,18 @@ fn main() {
         if !missing.is_empty() {
             fail(format!("{call:?} never answered {missing:?}"));
         }
+    }
+
+    let counts = brute::run(SEED, SETS).unwrap_or_else(|difference| fail(difference));
+    println!("{counts}");
+    let special = [
+        counts.sets,
+        counts.cyclic,
+        counts.several,
+        counts.own,
+        counts.tied_sets,
+    ];
+    if special.iter().any(|&count| count < ENOUGH) || counts.none == 0 {
+        fail("brute force: too few sets of some kind".to_string());
     }
 }

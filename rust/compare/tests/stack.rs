@@ -1,12 +1,14 @@
-//! Every call on a thread with a small stack: 64 KiB for those on the header, 256 KiB for those on leads, which have room of
-//! their own for a lead.
+//! Every call on a thread with a small stack: 64 KiB for those on the header, 256 KiB for those that read and encode leads,
+//! which have room of their own.
 
 use std::ops::Range;
 use std::thread;
 
+use compare::encoding::{self, Job};
 use compare::extremes;
 use compare::inputs::{self, Filling, Kind};
-use judge::make::Rng;
+use judge::make::{self, Rng};
+use judge::Refused;
 use scp::{Pointer, Refusal};
 
 const STACK: usize = 64 * 1024;
@@ -162,4 +164,52 @@ fn made_leads_fit_a_small_stack() {
     for (leads, record) in leads.iter().zip(&records) {
         assert!(*leads == judge_leads(record));
     }
+}
+
+// ---- encoding
+
+/// Encodes leads on a small stack, each with more room than it needs, then with an output of just enough, then of one byte
+/// less, and holds all answers to the judge's. The room that is lent is not on the stack.
+fn encoded_on_a_small_stack(jobs: &[Job], names: &[&str]) {
+    let (work, room) = (8 * scp::SAMPLES_MAX, scp::STREAM_MAX + 1);
+    for (job, name) in jobs.iter().zip(names) {
+        let judged = job.judged(work, room);
+        let mut expected = vec![(room, judged.clone())];
+        if let Ok(coded) = &judged {
+            let short = Refused {
+                number: 11,
+                work_cleared: coded.work_cleared,
+            };
+            expected.push((coded.bytes.len(), judged.clone()));
+            expected.push((coded.bytes.len() - 1, Err(short)));
+        }
+        let calls = || {
+            let rng = &mut Rng::new(5);
+            let mut calls = expected.iter();
+            calls
+                .try_for_each(|(out, answer)| job.by_library((work, *out), answer, rng).map(|_| ()))
+        };
+        let answer = thread::scope(|scope| {
+            let thread = thread::Builder::new().stack_size(STACK_FOR_LEADS);
+            thread.spawn_scoped(scope, calls).unwrap().join().unwrap()
+        });
+        assert_eq!(answer, Ok(()), "{name}");
+    }
+}
+
+#[test]
+fn the_longest_searches_fit_a_small_stack() {
+    let extremes = encoding::extremes::all();
+    let jobs: Vec<_> = extremes.iter().map(|extreme| extreme.job()).collect();
+    let names: Vec<_> = extremes.iter().map(|extreme| extreme.name).collect();
+    encoded_on_a_small_stack(&jobs, &names);
+}
+
+#[test]
+fn made_leads_to_encode_fit_a_small_stack() {
+    let calls: Vec<_> = (0..300)
+        .map(|seed| make::to_encode(&mut Rng::new(seed)))
+        .collect();
+    let jobs: Vec<_> = calls.iter().map(Job::from).collect();
+    encoded_on_a_small_stack(&jobs, &vec!["made"; jobs.len()]);
 }

@@ -27,7 +27,7 @@ pub use check::crc;
 pub use encoding::{encode_lead, Coded};
 pub use header::{field, same_identifier, walk_start, walk_step, Step};
 pub use leads::{lead, Entry};
-pub use reading::{read_lead, Lead};
+pub use reading::{read_lead, Lead, Reader};
 pub use record::{open, Pointer};
 pub use rows::{breaks, Refused};
 pub use writing::{write_record, Writing};

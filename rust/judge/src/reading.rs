@@ -2,6 +2,7 @@
 //! numbers).
 
 use crate::differences::foreseen;
+use crate::encoding::tables_to_write;
 use crate::leads::{find, Beat, Found};
 use crate::record::data_of;
 use crate::rows::Refused;
@@ -90,6 +91,32 @@ pub fn read_stream(
     match values.bits_left() {
         0..=7 => Ok(samples),
         _ => Err(14),
+    }
+}
+
+/// Reads streams outside of a record.
+#[derive(Clone, Debug)]
+pub struct Reader {
+    tables: Option<Tables>,
+}
+
+impl Reader {
+    /// By the data of a Section 2 without a spare byte, empty for none. Refused with 7.
+    pub fn new(section2: &[u8]) -> Result<Self, u8> {
+        let tables = tables_to_write(section2)?;
+        Ok(Reader { tables })
+    }
+
+    /// So many samples out of a stream, or 12 to 14.
+    pub fn samples(&self, stream: &[u8], order: u8, count: usize) -> Result<Vec<i16>, u8> {
+        read_stream(stream, self.tables.as_ref(), order, count)
+    }
+
+    /// The bits that are left of a stream after these values; `None` if it reads to others.
+    pub fn bits_after(&self, stream: &[u8], values: &[i32]) -> Option<usize> {
+        let mut read = Values::new(stream, self.tables.as_ref());
+        let same = values.iter().all(|&value| read.next() == Some(value));
+        same.then(|| read.bits_left())
     }
 }
 

@@ -28,14 +28,25 @@
 //! # Ok::<(), std::io::Error>(())
 //! ```
 
+//! Samples are coded by the data of a Section 2, here the default table, into the shortest stream that is read to them:
+//!
+//! ```no_run
+//! match scp::shortest(&[0x1F, 0x4E], &[10, 12, 13, 15], 2) {
+//!     Ok((stream, bits)) => println!("{stream:02X?}, {bits} bits"),
+//!     Err(refusal) => println!("refused: {refusal}"),
+//! }
+//! ```
+
 #![warn(missing_docs)]
 
+mod encoding;
 mod fields;
 mod leads;
 pub mod raw;
 mod record;
 mod refusal;
 
+pub use encoding::{encode_lead, shortest, Coded, STREAM_MAX, TABLES_MAX};
 pub use fields::{
     field, fields, same_identifier, walk_start, walk_step, Field, Fields, Step, FIRST_FIELD,
 };

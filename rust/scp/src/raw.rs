@@ -90,6 +90,18 @@ pub struct ScpEntry {
     pub bytes: u32,
 }
 
+/// A lead that was coded.
+#[repr(C)]
+#[derive(Clone, Copy, Debug, Default, PartialEq, Eq)]
+pub struct ScpCoded {
+    /// 0, or the refusal.
+    pub refusal: u8,
+    /// How many bytes the stream has.
+    pub bytes: u32,
+    /// How many bits its codes take.
+    pub bits: u32,
+}
+
 extern "C" {
     /// The check of `n` bytes.
     pub fn scp_crc(p: *const u8, n: usize) -> u16;
@@ -117,4 +129,16 @@ extern "C" {
     pub fn scp_lead(record: *const u8, n: usize, place: usize) -> ScpEntry;
     /// Whether the rule of a row, 1 to 9, is broken, asked alone.
     pub fn scp_breaks(record: *const u8, n: usize, row: u8) -> u8;
+    /// Codes the samples of a lead.
+    pub fn scp_encode_lead(
+        section2: *const u8,
+        n2: usize,
+        samples: *const i16,
+        n: usize,
+        order: u8,
+        work: *mut u8,
+        work_n: usize,
+        out: *mut u8,
+        out_n: usize,
+    ) -> ScpCoded;
 }

@@ -1,6 +1,6 @@
 //! The safe calls, on what can be told by hand. `compare` has the many inputs.
 
-use scp::{Entry, Lead, Refusal, Step, FIRST_FIELD};
+use scp::{Coded, Entry, Lead, Refusal, Step, FIRST_FIELD};
 
 /// A file of `samples/`.
 fn sample(name: &str) -> Vec<u8> {
@@ -187,4 +187,119 @@ fn each_rule_is_asked_alone() {
         assert_eq!(first, broken, "{name}");
     }
     assert!(scp::breaks(&[], 1) && !scp::breaks(&[], 0) && !scp::breaks(&[], 10));
+}
+
+// ---- encoding
+
+/// Section 2's data that name the default table.
+const DEFAULT_TABLE: [u8; 2] = 19_999u16.to_le_bytes();
+
+/// The two tables of EC71, C.2.7.3, as `own-tables.scp` has them.
+fn example_tables() -> Vec<u8> {
+    let record = sample("own-tables.scp");
+    let pointer = scp::open(&record).unwrap()[2];
+    let section = &record[pointer.index as usize - 1..][..pointer.length as usize];
+    section[16..].to_vec()
+}
+
+/// The values of the published stream that has 92 bits.
+const PUBLISHED: [i16; 20] = [
+    1, 2, -1, 0, 3, 0, 4, 1, 0, -2, 0, 15, -1, 0, 13, 0, 1, -2, -1, 1,
+];
+
+#[test]
+fn a_stream_is_shortest_with_switches_counted() {
+    let tables = example_tables();
+    let bits = |samples: &[i16]| scp::shortest(&tables, samples, 0).map(|(_, bits)| bits);
+    assert_eq!(bits(&PUBLISHED), Ok(87), "P6");
+    assert_eq!(bits(&[15]), Ok(12), "P7");
+    assert_eq!(bits(&[15, 15]), Ok(22), "P7, through table 2");
+    let (stream, bits) = scp::shortest(&tables, &PUBLISHED, 0).unwrap();
+    assert_eq!((stream.len(), bits), (11, 87));
+    assert_eq!(stream[10] & 1, 0, "the last byte is filled up with 0");
+}
+
+#[test]
+fn a_stream_is_put_into_the_room_lent() {
+    let samples = [14, 18, 22, 22, 13, 3, -2];
+    let (mut work, mut out) = ([5; 9], [77; 11]);
+    let coded = scp::encode_lead(&DEFAULT_TABLE, &samples, 2, &mut work, &mut out);
+    assert_eq!(coded, Ok(Coded { bytes: 9, bits: 71 }));
+    assert_eq!(out[..8], [0xFF, 0x83, 0xBF, 0xE1, 0x27, 0xBF, 0xF7, 0xBD]);
+    assert_eq!((out[8] & 1, &out[9..]), (0, &[77, 77][..]));
+    assert_eq!(work, [0; 9]);
+}
+
+#[test]
+fn two_bytes_a_value_need_no_work_space() {
+    let samples = [10, 12, 13, 15, 18, 22, 20, 15];
+    let (mut work, mut out) = ([5; 3], [77; 17]);
+    let coded = scp::encode_lead(&[], &samples, 1, &mut work, &mut out);
+    assert_eq!(
+        coded,
+        Ok(Coded {
+            bytes: 16,
+            bits: 128
+        })
+    );
+    let values = [10, 0, 2, 0, 1, 0, 2, 0, 3, 0, 4, 0, 254, 255, 251, 255];
+    assert_eq!((&out[..16], out[16]), (&values[..], 77));
+    assert_eq!(work, [5; 3]);
+}
+
+/// P9: a difference outside 16 bits has no code, whatever the tables are.
+#[test]
+fn no_stream_reads_to_a_difference_outside_16_bits() {
+    let samples = [-32768, 32767, -32768];
+    for (section2, left) in [
+        (DEFAULT_TABLE.to_vec(), 0),
+        (example_tables(), 0),
+        (Vec::new(), 5),
+    ] {
+        let (mut work, mut out) = ([5; 6], [77; 9]);
+        let refused = scp::encode_lead(&section2, &samples, 2, &mut work, &mut out);
+        assert_eq!(refused.map_err(Refusal::number), Err(15));
+        assert_eq!((work, out), ([left; 6], [77; 9]));
+    }
+}
+
+#[test]
+fn encoding_is_refused_in_its_order() {
+    let refused = |section2: &[u8], count: usize, order: u8, work: usize, out: usize| {
+        let (mut work, mut out) = (vec![5; work], vec![77; out]);
+        let refused = scp::encode_lead(section2, &vec![200; count], order, &mut work, &mut out);
+        assert!(out.iter().all(|&byte| byte == 77), "nothing is shown");
+        let cleared = !work.is_empty() && work.iter().all(|&byte| byte == 0);
+        assert!(cleared || work.iter().all(|&byte| byte == 5));
+        (refused.unwrap_err().number(), cleared)
+    };
+    let spare = [&DEFAULT_TABLE[..], &[0]].concat();
+    assert_eq!(refused(&[9], 0, 0, 0, 0), (17, false));
+    assert_eq!(refused(&[9], 65_537, 0, 0, 0), (17, false));
+    assert_eq!(refused(&[9], 1, 3, 0, 0), (17, false));
+    assert_eq!(refused(&[9], 1, 2, 0, 0), (7, false));
+    assert_eq!(refused(&spare, 1, 2, 1, 9), (7, false));
+    assert_eq!(refused(&DEFAULT_TABLE, 5, 0, 4, 99), (11, false));
+    assert_eq!(refused(&example_tables(), 5, 0, 9, 99), (11, false));
+    assert_eq!(refused(&example_tables(), 5, 0, 10, 0), (15, true));
+    assert_eq!(refused(&DEFAULT_TABLE, 20_165, 0, 20_165, 0), (16, true));
+    assert_eq!(
+        refused(&DEFAULT_TABLE, 20_164, 0, 20_164, 65_532),
+        (11, true)
+    );
+    assert_eq!(refused(&[], 32_768, 0, 1, 0), (16, false));
+    assert_eq!(refused(&[], 32_767, 0, 1, 65_533), (11, false));
+}
+
+#[test]
+fn room_is_made_for_a_stream() {
+    let number = |section2: &[u8], samples: &[i16], order| {
+        scp::shortest(section2, samples, order).map_or_else(Refusal::number, |_| 0)
+    };
+    assert_eq!(number(&DEFAULT_TABLE, &[], 0), 17);
+    assert_eq!(number(&DEFAULT_TABLE, &vec![0; 65_537], 0), 17);
+    assert_eq!(number(&DEFAULT_TABLE, &vec![0; 65_536], 0), 0);
+    assert_eq!(number(&[], &vec![0; 32_767], 0), 0);
+    assert_eq!(number(&[], &vec![0; 32_768], 0), 16);
+    assert_eq!(number(&[1], &[0], 0), 7);
 }

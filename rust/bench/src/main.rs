@@ -1,0 +1,54 @@
+//! Measures the proved library beside the same work in plain Rust: `cargo run --release --package bench`.
+//!
+//! Both sides of a line do their work in turns, in one process, and the medians of all rounds are shown with their ratio.
+//! What they answer is held to be the same before anything is measured. Nothing is asserted of the times.
+
+mod encoding;
+mod measure;
+mod plain;
+mod reading;
+
+use clap::{Parser, ValueEnum};
+
+use measure::Table;
+
+/// Measure the proved library beside plain Rust.
+#[derive(Parser)]
+struct Cli {
+    /// What to measure; all of it if nothing is named
+    parts: Vec<Part>,
+    /// How many rounds each line has
+    #[arg(long, value_name = "N", default_value_t = 41)]
+    rounds: usize,
+}
+
+/// A part of the benchmark.
+#[derive(Clone, Copy, PartialEq, Eq, ValueEnum)]
+enum Part {
+    /// A record of 12 leads: opening it, and reading all leads
+    Record,
+    /// The check of 1 MiB
+    Crc,
+    /// A long lead by tables of the record's own
+    Engine,
+    /// Encoding a lead
+    Encoding,
+}
+
+fn main() {
+    let cli = Cli::parse();
+    let is_asked = |part| cli.parts.is_empty() || cli.parts.contains(&part);
+    let mut table = Table::new(cli.rounds.max(1));
+    if is_asked(Part::Record) {
+        reading::record(&mut table);
+    }
+    if is_asked(Part::Crc) {
+        reading::crc(&mut table);
+    }
+    if is_asked(Part::Engine) {
+        reading::engine(&mut table);
+    }
+    if is_asked(Part::Encoding) {
+        encoding::all(&mut table);
+    }
+}
