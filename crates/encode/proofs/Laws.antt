@@ -190,7 +190,7 @@ module _ (bits room : ℕ) where
         rw (le-leb (bytesFor (length bs)) 65535 (omega arith), le-leb (bytesFor (length bs)) room (omega arith))
 
 -- a rule with others behind it, where nothing is refused
-passed : (kept : Bool) (number later : ℕ) → cond kept later (suc number) ≡ 0 → (kept ≡ true) × (later ≡ 0)
+pub passed : (kept : Bool) (number later : ℕ) → cond kept later (suc number) ≡ 0 → (kept ≡ true) × (later ≡ 0)
 passed true number later e = (refl, e)
 passed false number later e = absurd (omega arith)
 
@@ -328,7 +328,7 @@ pub cleared-some : (work : List ℕ) (n : ℕ) → (n ≡ 0 → ⊥) → replica
 cleared-some work zero h = absurd (h refl)
 cleared-some work (suc n) h = refl
 
-cleared-after : (s2 work : List ℕ) (held : ℕ) → held ≡ heldFor (length s2) → clearedIf held work ≡ workAfter s2 work
+pub cleared-after : (s2 work : List ℕ) (held : ℕ) → held ≡ heldFor (length s2) → clearedIf held work ≡ workAfter s2 work
 unfolding workAfter
 cleared-after s2 work held e = rw e (go (length s2))
   where

@@ -13,7 +13,7 @@ use Rattle.encode.specs.declared.Coded.{Coded}
 use Rattle.encode.specs.Encoding.{Found, foundRefusal, codedAs, outAs, Encoded, refused, searched}
 
 -- one thing at most is found
-found-unique : (tables : List (List Structure)) (vs : List ℤ) (f g : Option (List ℕ)) → Found tables vs f → Found tables vs g → f ≡ g
+pub found-unique : (tables : List (List Structure)) (vs : List ℤ) (f g : Option (List ℕ)) → Found tables vs f → Found tables vs g → f ≡ g
 found-unique tables vs none none F G = refl
 found-unique tables vs none (some bs) F G = absurd (shortest-some tables vs bs G F)
 found-unique tables vs (some bs) none F G = absurd (shortest-some tables vs bs F G)

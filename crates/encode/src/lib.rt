@@ -300,7 +300,7 @@ fn asked_refusal(section2: &[u8], count: usize, order: usize, work: usize) -> u8
 }
 
 // Room of its own for the numbers of the code tables.
-fn table_room() -> [u32; 3080] {
+pub fn table_room() -> [u32; 3080] {
     [0; 3080]
 }
 

@@ -12,7 +12,10 @@ ghost use Rattle.rules.specs.Breaks.{keeps};
 ghost use Rattle.leads.specs.Leads.{readTrace};
 ghost use Rattle.leads.specs.Answers.{leadAnswer, outAfter, workAfter, entryAnswer};
 ghost use Rattle.encode.specs.Encoding.{Encoded};
+ghost use Rattle.compose.specs.Writing.{jobOf, Wrote};
 ghost use Rattle.scp.specs.Answers.{partAt, shown, oneIf};
+use compose::Head;
+use compose::Written;
 use encode::Coded;
 use fields::Place;
 use header::Step;
@@ -178,4 +181,44 @@ pub extern "C" fn scp_encode_lead(
     ensures { λ r. ⌜ Encoded (now (section2 .entry)) (now (samples .entry)) order (now (work .entry)) (now (out .entry)) r (now (work .exit)) (now (out .exit)) ⌝ }
 {
     encode::encode_lead(section2, samples, order as usize, work, out)
+}
+
+// Writing a record: Section 1's data with their end mark, Section 2's (empty: none), the numbers that stand for all leads, and the leads,
+// whose samples stand one after another.
+#[no_mangle]
+pub extern "C" fn scp_write_record(
+    section1: &[u8],
+    section2: &[u8],
+    version: u8,
+    flags: u8,
+    step: u16,
+    interval: u16,
+    order: u8,
+    firsts: &[u32],
+    counts: &[u32],
+    ids: &[u8],
+    samples: &[i16],
+    work: &mut [u8],
+    out: &mut [u8],
+) -> Written
+    ensures { λ r. ⌜ Wrote (jobOf (now (section1 .entry)) (now (section2 .entry)) (record { version = version; flags = flags; step = step; interval = interval; order = order }) (now (firsts .entry)) (now (counts .entry)) (now (ids .entry)) (now (samples .entry))) (now (work .entry)) (now (out .entry)) r (now (work .exit)) (now (out .exit)) ⌝ }
+{
+    let head = Head {
+        version,
+        flags,
+        step,
+        interval,
+        order: order as usize,
+    };
+    compose::write_record(
+        section1,
+        section2,
+        head,
+        firsts,
+        counts,
+        ids,
+        samples,
+        work,
+        out,
+    )
 }

@@ -1,0 +1,149 @@
+-- Writing a record (01, Refusal numbers 6, 7, 11 and 15 to 17 and the paragraphs under the table). A job is what the writer is given: Section 1's data
+-- with their end mark, Section 2's (empty: none), and the leads, whose samples stand one after another.
+use Prim.Native.Nat.{ℕ, zero, suc, _+_, _*_}
+use mathlib.Core.Path.{_≡_}
+use mathlib.Core.Bool.{Bool, true, not, _&&_, cond}
+use mathlib.Core.List.{List, [], _∷_, _++_}
+use mathlib.Core.Option.{Option, none, some}
+use lib.Dec.{leb, eqb}
+use lib.IntN.{ℤ}
+use lib.ListN.{length, getD, take, drop}
+use Rattle.wire.specs.Rules.{allIn, unless}
+use Rattle.header.specs.Header.{section1Right}
+use Rattle.samples.specs.Differences.{differences}
+use Rattle.packing.specs.Packing.{packed}
+use Rattle.layout.specs.Layout.{leadsData, streamsData, recordBytes}
+use Rattle.encode.specs.Encoding.{tablesGiven, givenRight, Found, workAfter}
+use Rattle.compose.specs.declared.Written.{Written}
+use Rattle.compose.specs.declared.Head.{Head}
+
+pub record Job : Type 0 where
+  pub section1 : List ℕ
+  pub section2 : List ℕ
+  pub version : ℕ
+  pub flags : ℕ
+  pub step : ℕ
+  pub interval : ℕ
+  pub order : ℕ
+  pub firsts : List ℕ
+  pub counts : List ℕ
+  pub ids : List ℕ
+  pub samples : List ℤ
+
+-- a job as it is lent: Sections 1 and 2, the numbers that stand for all leads, then the leads' lists
+abbrev pub jobOf : List ℕ → List ℕ → Head → List ℕ → List ℕ → List ℕ → List ℤ → Job
+jobOf s1 s2 head firsts counts ids xs = record {
+  section1 = s1;
+  section2 = s2;
+  version = head .version;
+  flags = head .flags;
+  step = head .step;
+  interval = head .interval;
+  order = head .order;
+  firsts = firsts;
+  counts = counts;
+  ids = ids;
+  samples = xs;
+}
+
+-- ---- what is asked
+
+-- the counts together, and the largest of them
+unfoldable pub total : List ℕ → ℕ
+total [] = 0
+total (c ∷ cs) = c + total cs
+
+unfoldable pub longest : List ℕ → ℕ
+longest [] = 0
+longest (c ∷ cs) = cond (leb (longest cs) c) c (longest cs)
+
+-- lead k, from 0: 1 to 65,536 samples; the first is numbered at least 1, and the last within 32 bits
+unfoldable pub leadAsked : List ℕ → List ℕ → ℕ → Bool
+leadAsked firsts counts k =
+    leb 1 (getD counts k 0)
+    && (leb (getD counts k 0) 65536
+    && (leb 1 (getD firsts k 0) && leb (getD firsts k 0 + getD counts k 0) 4294967296))
+
+-- 17: 1 to 32 leads, in lists of equal length, each by its rule; an order of 0 to 2; step and interval not 0; as many samples as the
+-- leads' counts say together
+unfoldable pub jobRight : Job → Bool
+jobRight j =
+    leb 1 (length (j .counts))
+    && (leb (length (j .counts)) 32
+    && (eqb (length (j .firsts)) (length (j .counts))
+    && (eqb (length (j .ids)) (length (j .counts))
+    && (allIn 0 (length (j .counts)) (leadAsked (j .firsts) (j .counts))
+    && (leb (j .order) 2
+    && (not (eqb (j .step) 0) && (not (eqb (j .interval) 0) && eqb (total (j .counts)) (length (j .samples)))))))))
+
+-- the first of 17, 6, 7 and 11 for work space that applies, in that order, and 0 where none does: then streams are looked for. The work
+-- space has a byte for each sample of the longest lead times each table.
+unfoldable pub jobRefusal : Job → ℕ → ℕ
+jobRefusal j work =
+    unless (jobRight j) 17
+    (unless (section1Right 0 (j .section1) 0) 6
+    (unless (givenRight (j .section2)) 7
+    (unless (leb (longest (j .counts) * length (tablesGiven (j .section2))) work) 11 0)))
+
+-- ---- what is found
+
+-- the samples of the leads, cut by their counts
+unfoldable pub cut : List ℕ → List ℤ → List (List ℤ)
+cut [] xs = []
+cut (c ∷ cs) xs = take c xs ∷ cut cs (drop c xs)
+
+-- for each lead the shortest stream for its differences, or that there is none
+pub data FoundAll (s2 : List ℕ) (order : ℕ) : List (List ℤ) → List (Option (List ℕ)) → Type 0 where
+  done : FoundAll s2 order [] []
+  lead : {xs : List ℤ} {xss : List (List ℤ)} {found : Option (List ℕ)} {founds : List (Option (List ℕ))} →
+      Found (tablesGiven s2) (differences order xs) found → FoundAll s2 order xss founds → FoundAll s2 order (xs ∷ xss) (found ∷ founds)
+
+-- the streams, packed into bytes; none where some lead has none
+abbrev pub behind : List ℕ → Option (List (List ℕ)) → Option (List (List ℕ))
+behind bs none = none
+behind bs (some streams) = some (packed bs ∷ streams)
+
+unfoldable pub streamsOf : List (Option (List ℕ)) → Option (List (List ℕ))
+streamsOf [] = some []
+streamsOf (none ∷ founds) = none
+streamsOf (some bs ∷ founds) = behind bs (streamsOf founds)
+
+-- every stream has at most 65,535 bytes
+unfoldable pub allShort : List (List ℕ) → Bool
+allShort [] = true
+allShort (stream ∷ streams) = leb (length stream) 65535 && allShort streams
+
+-- ---- the record
+
+unfoldable pub recordOf : Job → List (List ℕ) → List ℕ
+recordOf j streams =
+    recordBytes (j .version) (j .section1) (j .section2) (leadsData (j .flags) (j .firsts) (j .counts) (j .ids))
+    (streamsData (j .step) (j .interval) (j .order) streams)
+
+-- 15 where some lead has no stream; 16 where a stream has over 65,535 bytes, or the record over 1,048,576; 11 where the output has no
+-- room for it
+unfoldable pub foundRefusal : Job → ℕ → Option (List (List ℕ)) → ℕ
+foundRefusal j room none = 15
+foundRefusal j room (some streams) =
+    unless (allShort streams && leb (length (recordOf j streams)) 1048576) 16
+    (unless (leb (length (recordOf j streams)) room) 11 0)
+
+-- a refusal is its number and nothing else; else the record's length is answered
+abbrev pub writtenAs : Job → ℕ → Option (List (List ℕ)) → Written
+writtenAs j zero (some streams) = record { refusal = 0; bytes = length (recordOf j streams) }
+writtenAs j zero none = record { refusal = 0; bytes = 0 }
+writtenAs j (suc n) streams = record { refusal = suc n; bytes = 0 }
+
+-- the output: exactly its first bytes become the record; a refusal changes none
+abbrev pub outAs : Job → ℕ → Option (List (List ℕ)) → List ℕ → List ℕ
+outAs j zero (some streams) out = recordOf j streams ++ drop (length (recordOf j streams)) out
+outAs j zero none out = out
+outAs j (suc n) streams out = out
+
+-- what writing a job answers, and the work space and the output afterwards
+pub data Wrote (j : Job) (work out : List ℕ) : Written → List ℕ → List ℕ → Type 0 where
+  refused : (n : ℕ) → jobRefusal j (length work) ≡ suc n → Wrote j work out (writtenAs j (suc n) none) work out
+  searched : (founds : List (Option (List ℕ))) → jobRefusal j (length work) ≡ 0 →
+      FoundAll (j .section2) (j .order) (cut (j .counts) (j .samples)) founds →
+      Wrote j work out (writtenAs j (foundRefusal j (length out) (streamsOf founds)) (streamsOf founds)) (workAfter (j .section2) work)
+      (outAs j (foundRefusal j (length out) (streamsOf founds)) (streamsOf founds) out)

@@ -1,0 +1,15 @@
+pub mod Wire
+pub mod Header
+pub mod Reading
+pub mod Traces
+pub mod Tables
+pub mod Places
+pub mod Sections
+pub mod Entries
+pub mod Streams
+pub mod Frame
+pub mod Placed
+pub mod Opened
+pub mod Compose
+pub mod Trip
+pub mod Written
