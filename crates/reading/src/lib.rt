@@ -150,8 +150,8 @@ impl Cursor {
         next.burst(s, tab, depth - 1)
     }
 
-    // The next value of a stream that is coded by tables.
-    fn coded(self, s: &[u8], tab: &[u32]) -> Read
+    // The next value, by bursts: the loop around the bounded depth.
+    fn by_bursts(self, s: &[u8], tab: &[u32]) -> Read
         requires { ⌜ Filled (now tab) × (length (now s) ≤ 1048576) × Within (length (now s) * 8) self ⌝ }
         ensures told { λ r. ⌜ ((tables : List (List Structure)) → Ready tables (now (tab .entry)) → told (bitsIn (now (s .entry))) r ≡ readCoded tables (self .table) (drop (self .at) (bitsIn (now (s .entry))))) ⌝ }
         ensures onward { λ r. ⌜ Onward (self .at) (length (now (s .entry)) * 8) r ⌝ }
@@ -166,6 +166,31 @@ impl Cursor {
                     c = d;
                 }
             }
+        }
+    }
+
+    // The next value of a stream that is coded by tables. Most often it is the first code's: that is tried here, so that the functions
+    // that call each other run only where it is a switch's.
+    fn coded(self, s: &[u8], tab: &[u32]) -> Read
+        requires { ⌜ Filled (now tab) × (length (now s) ≤ 1048576) × Within (length (now s) * 8) self ⌝ }
+        ensures told { λ r. ⌜ ((tables : List (List Structure)) → Ready tables (now (tab .entry)) → told (bitsIn (now (s .entry))) r ≡ readCoded tables (self .table) (drop (self .at) (bitsIn (now (s .entry))))) ⌝ }
+        ensures onward { λ r. ⌜ Onward (self .at) (length (now (s .entry)) * 8) r ⌝ }
+    {
+        let at = self.at;
+        let t = self.table - 1;
+        let left = s.len() * 8 - at;
+        let w = bits::window(s, at);
+        match find(tab, t, w, left) {
+            Found::At(first) => {
+                if first.to == 0 {
+                    return value_of(first, w, left, self);
+                }
+                match self.follow(s, tab, 64, first) {
+                    Burst::Ended(r) => r,
+                    Burst::More(d) => d.by_bursts(s, tab),
+                }
+            }
+            Found::Nothing => Read::Stuck,
         }
     }
 

@@ -1,7 +1,9 @@
--- What is left to be read at the cursor is what was to be read at first; a burst that did not end is further on, within the bits.
-use Prim.Native.Nat.{_-_, _*_, _≤_, _<_}
-use mathlib.Core.Path.{_≡_, refl, sym, ap, subst, _∙_}
+-- A form that was found is that of the structure that is matched: a value's is the answer, and a switch's is followed, which
+-- carries on as the rule does.
+use Prim.Native.Nat.{_+_, _-_, _*_, _<_}
+use mathlib.Core.Path.{_≡_, sym, ap, subst, _∙_}
 use mathlib.Core.List.{List}
+use native.Mathlib.Nat.{pos-of-ne-zero}
 use native.Mathlib.Omega.{arith}
 use borrow.Author.Needs.{needs}
 use lib.ListN.{length, drop}
@@ -9,78 +11,162 @@ use Rattle.bits.specs.Bits.{bitsIn}
 use Rattle.tables.specs.declared.Structure.{Structure}
 use Rattle.compiled.specs.InnerForm.{Ready}
 use Rattle.reading.specs.Reading.{readCoded}
-use Rattle.reading.specs.InnerCursor.{toldOf, Within, OnwardOf}
-use Rattle.reading.proofs.Laws.{onward-from}
+use Rattle.reading.specs.InnerCursor.{Seen, foundIn, toldOf, Within, OnwardOf}
+use Rattle.reading.proofs.Laws.{length-left, seen-left, found-none, read-none, FoundForm, found-form, read-form, read-on, onward-from}
 use Rattle.reading.proofs.Cursor.coded.Statement.{statement}
 use Rattle.reading.proofs.Cursor.coded.Tie as tie
 
-abbrev Inv-loop : tie.InvT-loop
-Inv-loop s tab c₀ c =
-    Within (length s * 8) c
-    × (c₀ .at ≤ c .at)
-    × ((tables : List (List Structure)) → Ready tables tab
-    → readCoded tables (c .table) (drop (c .at) (bitsIn s)) ≡ readCoded tables (c₀ .table) (drop (c₀ .at) (bitsIn s)))
+sub-t : tie.Need-sub-t
+sub-t c = omega arith
 
-abbrev μ-loop : tie.MeasureT-loop
-μ-loop s tab c₀ c = length s * 8 - c .at
+mul-left : tie.Need-mul-left
+mul-left c = omega arith
 
-loop-holds : tie.Need-loop-holds Inv-loop μ-loop
-loop-holds c = (omega arith, omega arith, λ tables ready. refl)
+sub-left : tie.Need-sub-left
+sub-left c = omega arith
 
-burst-requires : tie.Need-burst-requires Inv-loop μ-loop
-burst-requires c κs = (c .before .before .before .pre .0, omega arith, c .loop .inv .0)
+window-requires : tie.Need-window-requires
+window-requires c κs = omega arith
 
-enum-known-r : tie.Need-enum-known-r Inv-loop μ-loop
-enum-known-r c = search needs
+find-requires : tie.Need-find-requires
+find-requires c κs = (c .before .before .before .before .pre .0, omega arith)
 
-returns : tie.Need-returns Inv-loop μ-loop
-returns c =
+enum-known-first : tie.Need-enum-known-first
+enum-known-first c = search needs
+
+-- the bits at the cursor are seen through the window
+seen : (c : tie.After-window) →
+    let a = c .before .before .before .before .args in
+    Seen (drop (a .self .at) (bitsIn (a .s .now))) (c .window .result) (length (a .s .now) * 8 - a .self .at)
+seen c =
+    let a = c .before .before .before .before .args in
+    seen-left (a .s .now) (a .self .at) (c .window .result) (c .window .ensures)
+
+-- the form that was found is that of the structure that is matched
+found : (c : tie.After-first) →
     let a = c .before .before .before .before .before .before .before .args in
-    let l = c .before .before .before .before .loop in
-    let said = c .before .before .before .burst .ensures in
-    let n = length (a .s .now) * 8 in
-    let is = c .before .r .given .1 in (
-      λ tables ready.
-          sym (ap (toldOf tables (bitsIn (a .s .now))) is) ∙ said .0 tables ready ∙ l .inv .2 tables ready,
-      onward-from (a .self .at) (l .c .at) n (l .inv .1) (c .before .r .given .0 .0) (subst (OnwardOf (l .c .at) n) is (said .1)),
+    (tables : List (List Structure)) → Ready tables (a .tab .now)
+    → FoundForm tables (a .self .table) (drop (a .self .at) (bitsIn (a .s .now))) (c .first .given .0 .0)
+found c tables ready =
+    let a = c .before .before .before .before .before .before .before .args in
+    let bs = drop (a .self .at) (bitsIn (a .s .now)) in
+    found-form ready (a .self .table) (omega arith) (omega arith) bs (c .first .given .0 .0)
+    (sym (ap foundIn (c .first .given .1)) ∙ c .before .before .find .ensures tables bs ready (seen (c .before .before .before)))
+
+value-of-requires : tie.Need-value-of-requires
+value-of-requires c κs =
+    let start = c .before .before .before .before .before .before .before .before .before .before in
+    let d = found (c .before .before .before) (start .pre .0 .0) (start .pre .0 .1) in (
+      (d .structure, d .form, d .right, c .if1 .taken),
+      omega (arith, d .long, length-left (start .args .s .now) (start .args .self .at)),
+      omega arith,
     )
 
-enum-known-d : tie.Need-enum-known-d Inv-loop μ-loop
+returns : tie.Need-returns
+returns c =
+    let start = c .before .before .before .before .before .before .before .before .before .before .before in
+    let a = start .args in
+    let all : a .self .at + (length (a .s .now) * 8 - a .self .at) ≡ length (a .s .now) * 8 = omega arith in (
+      λ tables ready.
+          let d = found (c .before .before .before .before) tables ready in
+          c .value-of .ensures .0 (d .structure) (bitsIn (a .s .now)) (d .form) (d .right) (d .small)
+          (seen (c .before .before .before .before .before .before .before))
+          ∙ sym (read-form (ready .right) d (c .before .if1 .taken)),
+      rw all at (c .value-of .ensures .1),
+    )
+
+-- a switch was matched, by which reading carries on
+follow-requires : tie.Need-follow-requires
+follow-requires c κs =
+    let start = c .before .before .before .before .before .before .before .before .before .before in
+    let d = found (c .before .before .before) (start .pre .0 .0) (start .pre .0 .1) in
+    let n = length-left (start .args .s .now) (start .args .self .at) in
+    let on = pos-of-ne-zero (c .if1 .left) in
+    (start .pre .0, omega arith, start .pre .2, omega (arith, d .fine .some, d .long, d .fine .to))
+
+-- what following it told is what the rule says at the cursor
+followed : (c : tie.After-follow) →
+    let a = c .before .before .before .before .before .before .before .before .before .before .before .args in
+    let bits = bitsIn (a .s .now) in
+    (tables : List (List Structure)) → Ready tables (a .tab .now)
+    → toldOf tables bits (c .follow .result) ≡ readCoded tables (a .self .table) (drop (a .self .at) bits)
+followed c tables ready =
+    let a = c .before .before .before .before .before .before .before .before .before .before .before .args in
+    let d = found (c .before .before .before .before) tables ready in
+    rw (read-on (ready .right) (a .self .at) (bitsIn (a .s .now)) d (c .before .if1 .left)) (c .follow .ensures .0 tables ready)
+
+enum-known-r : tie.Need-enum-known-r
+enum-known-r c = search needs
+
+enum-known-d : tie.Need-enum-known-d
 enum-known-d c = search needs
 
--- the cursor of a burst that did not end is further on
-further : (c : tie.After-known-told2 Inv-loop μ-loop) →
-    let n = length (c .before .before .before .before .before .before .before .args .s .now) * 8 in
+-- where the depth was used up, the cursor is further on
+further : (c : tie.After-known-told3) →
+    let a = c .before .before .before .before .before .before .before .before .before .before .before .before .before .before .args in
     let d = c .before .d .given .0 .0 in
-    (c .before .before .before .before .loop .c .at < d .at) × Within n d
+    (a .self .at < d .at) × Within (length (a .s .now) * 8) d
 further c =
-    let n = length (c .before .before .before .before .before .before .before .args .s .now) * 8 in
-    subst (OnwardOf (c .before .before .before .before .loop .c .at) n) (c .before .d .given .1) (c .before .before .before .burst .ensures .1)
+    let a = c .before .before .before .before .before .before .before .before .before .before .before .before .before .before .args in
+    subst (OnwardOf (a .self .at) (length (a .s .now) * 8)) (c .before .d .given .1) (c .before .before .before .follow .ensures .1)
 
-loop-less : tie.Need-loop-less Inv-loop μ-loop
-loop-less c = omega (arith, further c)
+by-bursts-requires : tie.Need-by-bursts-requires
+by-bursts-requires c κs =
+    let start = c .before .before .before .before .before .before .before .before .before .before .before .before .before .before in
+    (start .pre .0, omega arith, further c .1)
 
-loop-again : tie.Need-loop-again Inv-loop μ-loop
-loop-again c =
-    let bits = bitsIn (c .before .before .before .before .before .before .before .args .s .now) in
-    let said = c .before .before .before .burst .ensures .0 in
-    let inv = c .before .before .before .before .loop .inv in (
-      further c .1,
-      omega (arith, further c .0),
+enum-told : tie.Need-enum-told
+enum-told c = search needs
+
+returns-2 : tie.Need-returns-2
+returns-2 c =
+    let a = c .before .before .before .before .before .before .before .before .before .before .before .before .before .before .args in
+    let is = c .before .r .given .1 in
+    let follow = c .before .before .before in (
+      λ tables ready. sym (ap (toldOf tables (bitsIn (a .s .now))) is) ∙ followed follow tables ready,
+      subst (OnwardOf (a .self .at) (length (a .s .now) * 8)) is (follow .follow .ensures .1),
+    )
+
+returns-3 : tie.Need-returns-3
+returns-3 c =
+    let follow = c .before .before .before .before in
+    let a = follow .before .before .before .before .before .before .before .before .before .before .before .args in
+    let d = c .before .before .d .given in
+    let on = further (c .before) .0 in (
       λ tables ready.
-          sym (ap (toldOf tables bits) (c .before .d .given .1)) ∙ said tables ready ∙ inv .2 tables ready,
+          c .by-bursts .ensures .0 tables ready
+          ∙ sym (ap (toldOf tables (bitsIn (a .s .now))) (d .1))
+          ∙ followed follow tables ready,
+      onward-from (a .self .at) (d .0 .0 .at) (length (a .s .now) * 8) (omega arith) (c .by-bursts .result) (c .by-bursts .ensures .1),
+    )
+
+returns-4 : tie.Need-returns-4
+returns-4 c =
+    let a = c .before .before .before .before .before .before .before .args in
+    let bs = drop (a .self .at) (bitsIn (a .s .now)) in (
+      λ tables ready.
+          let told = sym (ap foundIn (c .enum-told .given .1)) ∙ c .before .before .find .ensures tables bs ready (seen (c .before .before .before)) in
+          sym (read-none (length tables) tables (ready .right) (a .self .table) bs (found-none tables (a .self .table) bs (omega arith) told)),
+      tt,
     )
 
 pub coded-spec : {M : Type 1} → statement M
 coded-spec =
     tie.close
     (tie.spec
-    Inv-loop
-    μ-loop
-    loop-holds
-    burst-requires
-    enum-known-r
+    sub-t
+    mul-left
+    sub-left
+    window-requires
+    find-requires
+    enum-known-first
+    value-of-requires
     returns
+    follow-requires
+    enum-known-r
     enum-known-d
-    loop-less
-    loop-again)
+    by-bursts-requires
+    enum-told
+    returns-2
+    returns-3
+    returns-4)
