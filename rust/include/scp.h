@@ -11,7 +11,7 @@
  *   - `refusal` is 0 (accepted) or the number of the rule that is broken, the smallest if there are several (below);
  *     where a call says an order of its own, the first in that order.
  *   - With a refusal every other field of the answer is 0 and no lent byte is changed, but for work space (scp_read_lead,
- *     scp_encode_lead).
+ *     scp_encode_lead, scp_write_record).
  *   - Places of bytes (`start`, `next`, `at`) count from 0; an occurrence and a lead's place count from 1.
  *     A pointer's index is as the record stores it: it counts the record's bytes from 1.
  *
@@ -31,8 +31,10 @@
  *   13  a sample does not fit 16 bits
  *   14  8 or more bits are left after the last sample
  *   15  no stream reads to these samples
- *   16  the shortest stream has more than 65,535 bytes
- *   17  0 or more than 65,536 samples are to be coded, or the order is over 2
+ *   16  the shortest stream has more than 65,535 bytes, or the record more than 1,048,576
+ *   17  0 or more than 65,536 samples are to be coded, or the order is over 2; for a record also: 0 or more than 32 leads, a
+ *       step or interval of 0, a first sample number of 0 or a last one past 32 bits, samples lent that differ in number from
+ *       the counts of the leads together, or lists of leads of unequal length
  */
 #ifndef SCP_H
 #define SCP_H
@@ -59,6 +61,9 @@ extern "C" {
 
 /* The most bytes that a lead's stream has: so much room for one is always enough. */
 #define SCP_STREAM_MAX 65535
+
+/* The most bytes that a record has: so much room for one is always enough. */
+#define SCP_RECORD_MAX 1048576
 
 /* What opening a record answers. */
 typedef struct {
@@ -98,6 +103,12 @@ typedef struct {
     uint8_t refusal;
     uint32_t bytes, bits; /* how many bytes the stream has, and how many bits of them its codes take: the rest are 0 */
 } ScpCoded;
+
+/* A record that was written; it is in the output. */
+typedef struct {
+    uint8_t refusal;
+    uint32_t bytes; /* how many bytes the record has */
+} ScpWritten;
 
 /* CRC-CCITT of n bytes: polynomial 1021 hex, preset FFFF, most significant bit first, no final change. Never refused. */
 uint16_t scp_crc(const uint8_t *p, size_t n);
@@ -169,6 +180,31 @@ uint8_t scp_breaks(const uint8_t *record, size_t n, uint8_t row);
  */
 ScpCoded scp_encode_lead(const uint8_t *section2, size_t n2, const int16_t *samples, size_t n, uint8_t order,
                          uint8_t *work, size_t work_n, uint8_t *out, size_t out_n);
+
+/*
+ * Writes a record with Sections 0, 1, 2 (if it is given), 3 and 6.
+ *
+ * `section1` is Section 1's data up to its end mark, FF 00 00, and nothing after it; more is 6. `section2` is Section 2's
+ * data with no spare byte; empty data mean that there is no Section 2; more is 7. Lead k has first sample number `firsts[k]`,
+ * `counts[k]` samples and ID `ids[k]`: nf, nc and ni are equal, 1 to 32. The samples of all leads stand one after another in
+ * `samples`, ns of them. `order` is that of the differences stored; each lead's stream is the one of scp_encode_lead.
+ *
+ * The record has twelve pointers, those of absent sections with index 0; the sections stand by rising ID without gaps;
+ * `version` is in both version bytes of each; Section 3 has `flags` with bit 0 cleared; bimodal, reserved and spare bytes are
+ * 0; all checks are made. What is written, scp_open accepts, scp_field shows byte for byte, and scp_read_lead gives back
+ * sample for sample. The first `bytes` bytes of the output are changed and no others; none on refusal.
+ *
+ * Work space is needed where there is a Section 2: one byte for each sample of the longest lead times each table, tables that
+ * are never reached counted; the default table is one. All of what was lent, however long, is zeros once a search has begun:
+ * with refusals 15, 16 and 11 for the output, and with acceptance. Otherwise, and always without Section 2, it is untouched.
+ * Output and work space are lent apart: they share no byte with each other, nor with what is read.
+ *
+ * Refusals, the first that applies: 17, 6, 7, 11 for the work space, 15 for any of the leads, 16, 11 for the output.
+ */
+ScpWritten scp_write_record(const uint8_t *section1, size_t n1, const uint8_t *section2, size_t n2, uint8_t version,
+                            uint8_t flags, uint16_t step, uint16_t interval, uint8_t order, const uint32_t *firsts, size_t nf,
+                            const uint32_t *counts, size_t nc, const uint8_t *ids, size_t ni, const int16_t *samples,
+                            size_t ns, uint8_t *work, size_t work_n, uint8_t *out, size_t out_n);
 
 #ifdef __cplusplus
 }

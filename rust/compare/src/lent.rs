@@ -7,7 +7,7 @@ use judge::make::Rng;
 /// The elements of each guard.
 const GUARD: usize = 16;
 
-/// What is lent: bytes, or samples.
+/// What is lent: bytes, samples, or numbers.
 pub trait Element: Copy + PartialEq + Default {
     /// The element that a number stands for: never 0, so that clearing is always seen.
     fn of(number: u64) -> Self;
@@ -22,6 +22,12 @@ impl Element for u8 {
 impl Element for i16 {
     fn of(number: u64) -> i16 {
         number as i16 | 1
+    }
+}
+
+impl Element for u32 {
+    fn of(number: u64) -> u32 {
+        number as u32 | 1
     }
 }
 

@@ -2,8 +2,8 @@
 //!
 //! Inputs are made by the judge's generator from a seed ([`inputs`]), or laid out by hand at the edges of the rules
 //! ([`edges`]) and at their ends ([`extremes`]); every call is made by both on each of them, in memory with guards around
-//! it ([`calls`], [`encoding`]); and every answer is counted ([`tally`]). On tiny leads the encoder is held against all
-//! streams that there are ([`encoding::brute`]).
+//! it ([`calls`], [`encoding`], [`writing`]); and every answer is counted ([`tally`], [`writing::counts`]). On tiny leads the
+//! encoder is held against all streams that there are ([`encoding::brute`]); what is written is read back.
 
 pub mod calls;
 mod draft;
@@ -16,6 +16,7 @@ mod lent;
 pub mod rhythm;
 pub mod samples;
 pub mod tally;
+pub mod writing;
 
 use judge::make::{self, Rng};
 

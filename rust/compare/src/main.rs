@@ -4,6 +4,7 @@ use std::process::ExitCode;
 
 use clap::Parser;
 use compare::encoding::brute;
+use compare::writing;
 
 /// Hold the proved library against the judge on inputs that a seed fixes.
 #[derive(Parser)]
@@ -17,6 +18,9 @@ struct Cli {
     /// How many sets of small tables, to hold the encoder against all streams
     #[arg(long, value_name = "N", default_value_t = 40_000)]
     sets: u64,
+    /// How many records to write
+    #[arg(long, value_name = "N", default_value_t = 10_240)]
+    jobs: u64,
 }
 
 fn main() -> ExitCode {
@@ -32,5 +36,6 @@ fn main() -> ExitCode {
 fn run(cli: &Cli) -> Result<(), String> {
     println!("{}", compare::run(cli.seed, cli.count)?);
     println!("{}", brute::run(cli.seed, cli.sets)?);
+    println!("{}", writing::run(cli.seed, cli.jobs)?);
     Ok(())
 }

@@ -1,15 +1,17 @@
 //! The library against the judge on 20,480 inputs and 5,120 leads to encode, always the same; every row of the table that
-//! each call can give is reached. Then the encoder against all streams, on 40,000 sets of small tables. It has no test
-//! harness, so that its counts are always shown.
+//! each call can give is reached. Then the encoder against all streams, on 40,000 sets of small tables; then the writer on
+//! 10,240 jobs, every refusal reached. It has no test harness, so that its counts are always shown.
 
 use std::process::exit;
 
 use compare::encoding::brute;
 use compare::tally::Call;
+use compare::writing;
 
 const SEED: u64 = 2001;
 const COUNT: u64 = 20_480;
 const SETS: u64 = 40_000;
+const JOBS: u64 = 10_240;
 /// At least so many of the sets have each thing that makes the choice of a stream hard.
 const ENOUGH: u64 = 10_000;
 
@@ -54,5 +56,15 @@ fn main() {
     ];
     if special.iter().any(|&count| count < ENOUGH) || counts.none == 0 {
         fail("brute force: too few sets of some kind".to_string());
+    }
+
+    let counts = writing::run(SEED, JOBS).unwrap_or_else(|difference| fail(difference));
+    println!("{counts}");
+    let missing = counts.never_reached();
+    if !missing.is_empty() {
+        fail(format!("the writer never answered {missing:?}"));
+    }
+    if counts.unequal < JOBS / 4 || counts.written < JOBS / 2 {
+        fail("writing: too few jobs of some kind".to_string());
     }
 }

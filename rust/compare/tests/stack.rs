@@ -1,5 +1,5 @@
-//! Every call on a thread with a small stack: 64 KiB for those on the header, 256 KiB for those that read and encode leads,
-//! which have room of their own.
+//! Every call on a thread with a small stack: 64 KiB for those on the header, 256 KiB for those that read, encode and write
+//! leads, which have room of their own.
 
 use std::ops::Range;
 use std::thread;
@@ -7,7 +7,8 @@ use std::thread;
 use compare::encoding::{self, Job};
 use compare::extremes;
 use compare::inputs::{self, Filling, Kind};
-use judge::make::{self, Rng};
+use compare::writing::{self, counts::Counts, edges};
+use judge::make::{self, Rng, ToWrite};
 use judge::Refused;
 use scp::{Pointer, Refusal};
 
@@ -212,4 +213,67 @@ fn made_leads_to_encode_fit_a_small_stack() {
         .collect();
     let jobs: Vec<_> = calls.iter().map(Job::from).collect();
     encoded_on_a_small_stack(&jobs, &vec!["made"; jobs.len()]);
+}
+
+// ---- writing
+
+/// Writes records on a small stack, each with just enough room, then with an output of one byte less, then with one byte of
+/// work space less, and holds all answers to the judge's; then reads back what was written. The room that is lent is not on
+/// the stack.
+fn written_on_a_small_stack(job: &ToWrite, name: &str) -> Result<Vec<u8>, Refused> {
+    let job = job.writing();
+    let judged = judge::write_record(&job, usize::MAX, usize::MAX);
+    let (work, has_tables) = (writing::work_of(&job), !job.section2.is_empty());
+    let out = judged.as_ref().map_or(0, Vec::len);
+    let mut expected = vec![(work, out, judged.clone())];
+    if judged.is_ok() {
+        let short = Refused {
+            number: 11,
+            work_cleared: has_tables,
+        };
+        expected.push((work, out - 1, Err(short)));
+        if has_tables {
+            expected.push((work - 1, out, Err(Refused::untouched(11))));
+        }
+    }
+    let calls = || {
+        let rng = &mut Rng::new(5);
+        for (work, out, answer) in &expected {
+            writing::by_library(&job, (*work, *out), answer, rng)?;
+        }
+        match &judged {
+            Ok(record) => writing::read_back(&job, record, &mut Counts::default()),
+            Err(_) => Ok(()),
+        }
+    };
+    let answer = thread::scope(|scope| {
+        let thread = thread::Builder::new().stack_size(STACK_FOR_LEADS);
+        thread.spawn_scoped(scope, calls).unwrap().join().unwrap()
+    });
+    assert_eq!(answer, Ok(()), "{name}");
+    judged
+}
+
+#[test]
+fn the_largest_jobs_fit_a_small_stack() {
+    for edge in edges::largest() {
+        let judged = written_on_a_small_stack(&edge.job, &edge.name);
+        assert!(edge.is_answered_by(&judged), "{}", edge.name);
+        if edge.name.ends_with("a full record") {
+            let bytes = judged.map(|record| record.len());
+            assert_eq!(bytes, Ok(scp::RECORD_MAX), "{}", edge.name);
+        }
+    }
+}
+
+#[test]
+fn made_jobs_fit_a_small_stack() {
+    for seed in 0..300 {
+        let job = make::to_write(&mut Rng::new(seed));
+        let broken = judge::write_record(&job.writing(), usize::MAX, usize::MAX);
+        // row 17 leaves open how much room a job needs
+        if broken.map_or_else(|refused| refused.number, |_| 0) != 17 {
+            let _ = written_on_a_small_stack(&job, "made");
+        }
+    }
 }

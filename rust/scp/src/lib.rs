@@ -27,7 +27,7 @@
 //! }
 //! # Ok::<(), std::io::Error>(())
 //! ```
-
+//!
 //! Samples are coded by the data of a Section 2, here the default table, into the shortest stream that is read to them:
 //!
 //! ```no_run
@@ -35,6 +35,31 @@
 //!     Ok((stream, bits)) => println!("{stream:02X?}, {bits} bits"),
 //!     Err(refusal) => println!("refused: {refusal}"),
 //! }
+//! ```
+//!
+//! A whole record is written from the data of Sections 1 and 2 and the samples of its leads:
+//!
+//! ```no_run
+//! let job = scp::Job {
+//!     section1: &[
+//!         2, 4, 0, b'0', b'0', b'7', 0, 14, 0, 0, 25, 4, 0, 0xE8, 7, 3, 14, 26, 3, 0, 9, 26, 53, 255, 0, 0,
+//!     ],
+//!     section2: &[0x1F, 0x4E],
+//!     version: 13,
+//!     flags: 0,
+//!     step: 5000,
+//!     interval: 2000,
+//!     order: 2,
+//!     firsts: &[1],
+//!     counts: &[4],
+//!     ids: &[1],
+//!     samples: &[10, 12, 13, 15],
+//! };
+//! match scp::written(&job) {
+//!     Ok(record) => std::fs::write("record.scp", record)?,
+//!     Err(refusal) => println!("refused: {refusal}"),
+//! }
+//! # Ok::<(), std::io::Error>(())
 //! ```
 
 #![warn(missing_docs)]
@@ -45,6 +70,7 @@ mod leads;
 pub mod raw;
 mod record;
 mod refusal;
+mod writing;
 
 pub use encoding::{encode_lead, shortest, Coded, STREAM_MAX, TABLES_MAX};
 pub use fields::{
@@ -53,3 +79,4 @@ pub use fields::{
 pub use leads::{lead, leads, read_lead, samples, Entry, Lead, LEADS_MAX, SAMPLES_MAX};
 pub use record::{breaks, crc, open, Pointer, RECORD_MAX};
 pub use refusal::Refusal;
+pub use writing::{write_record, written, Job};

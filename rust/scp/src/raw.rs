@@ -102,6 +102,16 @@ pub struct ScpCoded {
     pub bits: u32,
 }
 
+/// A record that was written.
+#[repr(C)]
+#[derive(Clone, Copy, Debug, Default, PartialEq, Eq)]
+pub struct ScpWritten {
+    /// 0, or the refusal.
+    pub refusal: u8,
+    /// How many bytes the record has.
+    pub bytes: u32,
+}
+
 extern "C" {
     /// The check of `n` bytes.
     pub fn scp_crc(p: *const u8, n: usize) -> u16;
@@ -141,4 +151,28 @@ extern "C" {
         out: *mut u8,
         out_n: usize,
     ) -> ScpCoded;
+    /// Writes a record.
+    pub fn scp_write_record(
+        section1: *const u8,
+        n1: usize,
+        section2: *const u8,
+        n2: usize,
+        version: u8,
+        flags: u8,
+        step: u16,
+        interval: u16,
+        order: u8,
+        firsts: *const u32,
+        nf: usize,
+        counts: *const u32,
+        nc: usize,
+        ids: *const u8,
+        ni: usize,
+        samples: *const i16,
+        ns: usize,
+        work: *mut u8,
+        work_n: usize,
+        out: *mut u8,
+        out_n: usize,
+    ) -> ScpWritten;
 }

@@ -1,6 +1,6 @@
 //! The safe calls, on what can be told by hand. `compare` has the many inputs.
 
-use scp::{Coded, Entry, Lead, Refusal, Step, FIRST_FIELD};
+use scp::{Coded, Entry, Job, Lead, Refusal, Step, FIRST_FIELD};
 
 /// A file of `samples/`.
 fn sample(name: &str) -> Vec<u8> {
@@ -302,4 +302,159 @@ fn room_is_made_for_a_stream() {
     assert_eq!(number(&[], &vec![0; 32_767], 0), 0);
     assert_eq!(number(&[], &vec![0; 32_768], 0), 16);
     assert_eq!(number(&[1], &[0], 0), 7);
+}
+
+// ---- writing
+
+/// The fields of a patient's record with the end mark.
+const FIELDS: [u8; 26] = [
+    2, 4, 0, b'0', b'0', b'7', 0, 14, 0, 0, 25, 4, 0, 0xE8, 7, 3, 14, 26, 3, 0, 9, 26, 53, 255, 0,
+    0,
+];
+
+/// Two leads of different lengths by the default table.
+const JOB: Job = Job {
+    section1: &FIELDS,
+    section2: &DEFAULT_TABLE,
+    version: 13,
+    flags: 0xFF,
+    step: 5000,
+    interval: 2000,
+    order: 2,
+    firsts: &[1, u32::MAX - 1],
+    counts: &[7, 2],
+    ids: &[1, 2],
+    samples: &[14, 18, 22, 22, 13, 3, -2, -5, 7],
+};
+
+/// The refusal of a job with this room, and whether the work space was cleared. Nothing else is changed.
+fn refused(job: Job, work: usize, out: usize) -> (u8, bool) {
+    let (mut work, mut out) = (vec![5; work], vec![77; out]);
+    let refused = scp::write_record(&job, &mut work, &mut out);
+    assert!(out.iter().all(|&byte| byte == 77), "nothing is shown");
+    let cleared = !work.is_empty() && work.iter().all(|&byte| byte == 0);
+    assert!(cleared || work.iter().all(|&byte| byte == 5));
+    (refused.unwrap_err().number(), cleared)
+}
+
+#[test]
+fn a_record_is_put_into_the_room_lent() {
+    let (mut work, mut out) = ([5; 9], vec![77; 300]);
+    let bytes = scp::write_record(&JOB, &mut work, &mut out).unwrap();
+    assert_eq!(work, [0; 9]);
+    assert!(out[bytes..].iter().all(|&byte| byte == 77));
+    let record = &out[..bytes];
+    assert_eq!(scp::written(&JOB).unwrap(), record);
+    let stored: Vec<_> = scp::open(record)
+        .unwrap()
+        .iter()
+        .map(|p| (p.length, p.index))
+        .collect();
+    // Section 3 has 2 + 9 + 9 bytes of data, Section 6 has 6 + 2 + 2, then streams of 9 and 3 bytes
+    let mut right = [(0, 0); 12];
+    right[0] = (136, 7);
+    right[1] = (42, 143);
+    right[2] = (18, 185);
+    right[3] = (36, 203);
+    right[6] = (38, 239);
+    assert_eq!(stored, right);
+    assert_eq!(bytes, 276);
+    for (length, index) in right.into_iter().filter(|pointer| pointer.0 != 0) {
+        let section = &record[index as usize - 1..][..length as usize];
+        assert_eq!(section[8..10], [13, 13], "one version in both places");
+    }
+}
+
+#[test]
+fn what_is_written_is_read_back() {
+    for section2 in [DEFAULT_TABLE.to_vec(), Vec::new()] {
+        let job = Job {
+            section2: &section2,
+            ..JOB
+        };
+        let record = scp::written(&job).unwrap();
+        let identifier = scp::field(&record, 2, 1).unwrap();
+        assert_eq!(&record[identifier], b"007\0");
+        let (one, samples) = scp::samples(&record, 1).unwrap();
+        assert_eq!(samples, JOB.samples[..7]);
+        assert_eq!((one.id, one.first, one.flags), (1, 1, 0xFE));
+        let (two, samples) = scp::samples(&record, 2).unwrap();
+        assert_eq!(samples, JOB.samples[7..]);
+        assert_eq!((two.id, two.first), (2, u32::MAX - 1));
+        assert_eq!((two.step, two.interval), (5000, 2000));
+        assert_eq!(scp::lead(&record, 2).unwrap().order, 2);
+    }
+}
+
+#[test]
+fn writing_is_refused_in_its_order() {
+    let spare = [&FIELDS[..], &[0]].concat();
+    let long = [&[9, 255, 255][..], &[7; 65_535]].concat().repeat(16);
+    let long = [&long[..], &FIELDS].concat();
+    let wide = Job {
+        firsts: &[1],
+        counts: &[3],
+        ids: &[1],
+        samples: &[-32768, 32767, -32768],
+        ..JOB
+    };
+    let broken = Job {
+        section1: &spare,
+        section2: &[1],
+        ..JOB
+    };
+    assert_eq!(refused(Job { order: 3, ..broken }, 0, 0), (17, false));
+    assert_eq!(
+        refused(
+            Job {
+                ids: &[1],
+                ..broken
+            },
+            0,
+            0
+        ),
+        (17, false)
+    );
+    assert_eq!(refused(broken, 0, 0), (6, false));
+    let section1 = &FIELDS[..];
+    assert_eq!(refused(Job { section1, ..broken }, 0, 0), (7, false));
+    assert_eq!(refused(wide, 2, 0), (11, false));
+    assert_eq!(refused(wide, 3, 0), (15, true));
+    let section2 = &[][..];
+    assert_eq!(refused(Job { section2, ..wide }, 3, 0), (15, false));
+    let section1 = &long;
+    assert_eq!(refused(Job { section1, ..JOB }, 7, 0), (16, true));
+    assert_eq!(refused(JOB, 6, 999), (11, false));
+    assert_eq!(refused(JOB, 7, 275), (11, true));
+    assert_eq!(refused(Job { section2, ..JOB }, 1, 263), (11, false));
+}
+
+#[test]
+fn room_is_made_for_a_record() {
+    let number = |job: Job| scp::written(&job).map_or_else(Refusal::number, |_| 0);
+    assert_eq!((JOB.work_room(), number(JOB)), (7 * 8, 0));
+    let samples = vec![0; 65_536];
+    let longest = Job {
+        firsts: &[1],
+        counts: &[65_536],
+        ids: &[1],
+        samples: &samples,
+        ..JOB
+    };
+    assert_eq!(number(longest), 0);
+    let plain = Job {
+        section2: &[],
+        ..longest
+    };
+    assert_eq!((plain.work_room(), number(plain)), (0, 16));
+    let counts = &[u32::MAX];
+    assert_eq!(number(Job { counts, ..longest }), 17);
+    let none = Job {
+        firsts: &[],
+        counts: &[],
+        ids: &[],
+        samples: &[],
+        ..JOB
+    };
+    assert_eq!((none.work_room(), number(none)), (0, 17));
 }

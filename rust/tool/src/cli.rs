@@ -8,16 +8,30 @@ use clap::{Parser, Subcommand};
 const STATUS: &str = "\
 Exit status:
   0  every file was accepted
-  1  some file was refused, or some lead of it
+  1  some file was refused, or some lead of it, or pack left it alone
   2  some of the work could not be done: a file could not be read, an answer
      not written, or the command line is not understood
 
 A FILE of - is standard input. A file that is refused or cannot be read never
 stops the others.";
 
+/// What the help of a command ends with that writes a record.
+const WRITING: &str = "\
+OUT is written whole or not at all: it is put beside under another name, synced,
+read back and compared, and only then takes its name. A file that is there is
+replaced only with --force. An OUT of - is standard output; what is said then
+goes to standard error. Nothing is ever written to a terminal.
+
+Exit status:
+  0  OUT was written
+  1  the record or the job was refused, or the record was left alone; nothing
+     was written
+  2  the work could not be done: a file could not be read or written, the job
+     is not understood, or the command line is not";
+
 /// What the tool is, at the head of its help.
 const ABOUT: &str = "\
-Opens, checks and shows SCP-ECG records.
+Opens, checks, shows, packs and writes SCP-ECG records.
 
 Records are judged by a library that is proved correct. A record is accepted
 or it is refused, with the number of the rule that it breaks, the smallest if
@@ -101,6 +115,49 @@ pub enum Command {
         /// As JSON
         #[arg(long)]
         json: bool,
+    },
+    /// Pack a record's leads into their shortest streams
+    ///
+    /// The leads are coded again by the record's own tables and difference order, each
+    /// into the shortest stream that is read to its samples. All else stays as it is,
+    /// and how many bytes that saved is told.
+    ///
+    /// A record that would lose something by it is left alone, with the reason: one
+    /// with other sections than 0, 1, 2, 3 and 6, with more than twelve pointers or an
+    /// index at one that is absent, with a reference beat subtracted, with version
+    /// bytes that are not all the same, or with reserved, spare or gap bytes that are
+    /// not 0. Bits that fill up a stream's last byte are not counted: the stream is
+    /// what is replaced.
+    #[command(verbatim_doc_comment, after_help = WRITING)]
+    Pack {
+        /// The record to pack; - is standard input
+        #[arg(value_name = "IN")]
+        file: PathBuf,
+        /// Where the packed record is to be put
+        #[arg(value_name = "OUT")]
+        out: PathBuf,
+        /// Replace the file that is there
+        #[arg(long)]
+        force: bool,
+    },
+    /// Write a record from a job in JSON
+    ///
+    /// The job has the header fields, the code tables, what all leads have in common
+    /// and the leads; their samples are in a CSV file beside it, in the form that
+    /// samples --csv writes. docs/JOBS.md says all of it, and samples/job.json is one.
+    /// A job that is refused is shown with the number, what its rule asks, and what
+    /// was found.
+    #[command(verbatim_doc_comment, after_help = WRITING)]
+    Write {
+        /// The job; - is standard input, with the samples in the current folder
+        #[arg(value_name = "JOB")]
+        job: PathBuf,
+        /// Where the record is to be put
+        #[arg(value_name = "OUT")]
+        out: PathBuf,
+        /// Replace the file that is there
+        #[arg(long)]
+        force: bool,
     },
 }
 

@@ -1,17 +1,20 @@
-//! `tigmavresh`: opens, checks and shows SCP-ECG records.
+//! `tigmavresh`: opens, checks, shows, packs and writes SCP-ECG records.
 //!
-//! The tool reads files and writes text. What it says of a record is the proved library's answer, but for the lines that
-//! explain a refusal, which say so ([`explain`]).
+//! The tool reads files and writes text, and records. What it says of a record is the proved library's answer, but for the
+//! lines that explain a refusal, which say so ([`explain`]); a record that it writes is the library's, byte for byte.
 
 mod cli;
 mod commands;
 mod explain;
 mod input;
+mod job;
 mod json;
+mod making;
 mod names;
 mod output;
 mod refused;
 mod status;
+mod store;
 mod table;
 
 use std::process::ExitCode;
@@ -34,6 +37,8 @@ fn main() -> ExitCode {
             csv,
             json,
         } => commands::samples::run(&file, lead, Form::of(csv, json), &mut output),
+        Command::Pack { file, out, force } => commands::pack::run(&file, &out, force, &mut output),
+        Command::Write { job, out, force } => commands::write::run(&job, &out, force, &mut output),
     };
     output.end(status).into()
 }

@@ -119,6 +119,11 @@ pub fn lead(id: u8) -> String {
     name.to_string()
 }
 
+/// The head of a lead's column in a table of samples: its place and name, and what a sample of 1 stands for.
+pub fn column(place: usize, id: u8, step: u16) -> String {
+    format!("{place} {} ({step} nV)", lead(id))
+}
+
 #[cfg(test)]
 mod tests {
     use super::lead;

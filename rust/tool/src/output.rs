@@ -53,6 +53,11 @@ impl Output {
         }
     }
 
+    /// Complains of where a record was to be put, on standard error, below what was shown so far.
+    pub fn complain_of_target(&mut self, target: &Path, error: &io::Error) {
+        self.remark(&[format!("{}: {}", shown_target(target), reason(error))]);
+    }
+
     /// Complains of a file on standard error, below what was shown so far.
     pub fn complain(&mut self, file: &Path, error: &io::Error) {
         self.attempt(Write::flush);
@@ -100,8 +105,16 @@ pub fn shown(file: &Path) -> String {
     name
 }
 
+/// The name of a file that is written, as it is shown.
+pub fn shown_target(file: &Path) -> String {
+    match input::is_standard(file) {
+        true => "standard output".to_string(),
+        false => shown(file),
+    }
+}
+
 /// Why something failed, without the number that the system has for it.
-fn reason(error: &io::Error) -> String {
+pub fn reason(error: &io::Error) -> String {
     let words = error.to_string();
     match words.find(" (os error") {
         Some(end) => words[..end].to_string(),

@@ -14,6 +14,9 @@ const FOUND_SHOWN: usize = 8;
 /// Whose word a refusal is, and whose its explanation.
 pub const NOTE: &str = "The refusal is the proved library's; what was found is the tool's own look at the bytes, to explain it.";
 
+/// The same of a job.
+pub const JOB_NOTE: &str = "The refusal is the proved library's; what was found is the tool's own look at the job, to explain it.";
+
 /// Shows a refusal: its number, what its rule asks, and what was found.
 pub fn show(file: &Path, input: &Input, refusal: Refusal, output: &mut Output) {
     show_asked(file, input, 1, refusal, output);
@@ -35,8 +38,12 @@ pub fn heading(file: &Path, input: &Input, refusal: Refusal) -> String {
 
 /// What the rule asks, and what was found, in lines. The place is that of the lead that was asked for.
 pub fn lines(input: &Input, place: usize, refusal: Refusal) -> Vec<String> {
+    told(refusal, &found(input, place, refusal))
+}
+
+/// What the rule asks, and this that was found, in lines.
+pub fn told(refusal: Refusal, found: &[String]) -> Vec<String> {
     let mut lines = vec![format!("  rule   {}", refusal.words())];
-    let found = found(input, place, refusal);
     let mut label = "found";
     for one in found.iter().take(FOUND_SHOWN) {
         lines.push(format!("  {label:5}  {one}"));

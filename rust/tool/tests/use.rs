@@ -1,39 +1,16 @@
 //! The tool in a user's hands: exit statuses, standard input, files that are none, pipes that close.
 
 mod common;
+#[path = "common/folder.rs"]
+mod folder;
 
 use std::ffi::OsStr;
 use std::fs::{self, File};
 use std::io::{BufRead, BufReader, Write};
-use std::path::{Path, PathBuf};
 use std::process::Stdio;
 
 use common::{run, samples, tool, Ran};
-
-/// A folder of this test's own, gone when it ends.
-struct Folder(PathBuf);
-
-impl Folder {
-    fn new(name: &str) -> Folder {
-        let path = Path::new(env!("CARGO_TARGET_TMPDIR")).join(name);
-        let _ = fs::remove_dir_all(&path);
-        fs::create_dir_all(&path).unwrap();
-        Folder(path)
-    }
-
-    /// A file of this name with these bytes.
-    fn file(&self, name: &str, bytes: &[u8]) -> String {
-        let path = self.0.join(name);
-        fs::write(&path, bytes).unwrap();
-        path.into_os_string().into_string().unwrap()
-    }
-}
-
-impl Drop for Folder {
-    fn drop(&mut self) {
-        let _ = fs::remove_dir_all(&self.0);
-    }
-}
+use folder::Folder;
 
 /// Runs the tool with these words and this standard input.
 fn run_with_input(words: &[&str], input: Stdio) -> Ran {
@@ -254,6 +231,12 @@ fn a_bad_command_line_is_told() {
         &["samples"],
         &["samples", "--csv", "--json", "beat.scp"],
         &["samples", "--all", "beat.scp"],
+        &["pack"],
+        &["pack", "own-tables.scp"],
+        &["pack", "own-tables.scp", "a", "b"],
+        &["pack", "--json", "own-tables.scp", "a"],
+        &["write", "job.json"],
+        &["write", "--all", "job.json", "a"],
     ] {
         let ran = run(words);
         assert_eq!((ran.status, ran.out.as_str()), (2, ""), "{words:?}");
@@ -288,6 +271,8 @@ fn help_says_all_of_it() {
         "fields ",
         "leads ",
         "samples ",
+        "pack ",
+        "write ",
         "Exit status:",
         "  0  ",
         "  1  ",
@@ -296,11 +281,18 @@ fn help_says_all_of_it() {
     ] {
         assert!(ran.out.contains(words), "{words}\n{}", ran.out);
     }
-    for command in ["open", "fields", "leads", "samples"] {
+    for (command, word) in [
+        ("open", "FILE"),
+        ("fields", "FILE"),
+        ("leads", "FILE"),
+        ("samples", "FILE"),
+        ("pack", "--force"),
+        ("write", "--force"),
+    ] {
         let ran = run(&[command, "--help"]);
         assert_eq!(ran.status, 0);
         assert!(
-            ran.out.contains("FILE") && ran.out.contains("Exit status:"),
+            ran.out.contains(word) && ran.out.contains("Exit status:"),
             "{}",
             ran.out
         );

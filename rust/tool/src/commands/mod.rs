@@ -3,4 +3,6 @@
 pub mod fields;
 pub mod leads;
 pub mod open;
+pub mod pack;
 pub mod samples;
+pub mod write;

@@ -220,10 +220,10 @@ fn write_csv(leads: &[Read], to: &mut impl Write) -> io::Result<()> {
 
 /// A column's head: the lead's place and name, and what a sample of 1 stands for, or its refusal.
 fn column(lead: &Read) -> String {
-    let name = format!("{} {}", lead.place, names::lead(lead.entry.id));
+    let (place, id) = (lead.place, lead.entry.id);
     match &lead.samples {
-        Ok(_) => format!("{name} ({} nV)", lead.entry.step),
-        Err(refusal) => format!("{name} (refused {})", refusal.number()),
+        Ok(_) => names::column(place, id, lead.entry.step),
+        Err(refusal) => format!("{place} {} (refused {})", names::lead(id), refusal.number()),
     }
 }
 

@@ -30,10 +30,19 @@ struct Walk<'a> {
 
 /// What breaks the rules of Section 1's data.
 pub fn fields(record: &[u8]) -> Vec<String> {
-    let walk = match sections::one(record) {
+    faults(match sections::one(record) {
         Some((index, length)) => walk(record, index + HEADER, index + length),
         None => Walk::default(),
-    };
+    })
+}
+
+/// What breaks the rules of Section 1's data where they stand alone: bytes count from their first.
+pub fn alone(data: &[u8]) -> Vec<String> {
+    faults(walk(data, 1, 1 + data.len() as u64))
+}
+
+/// What a walk has found.
+fn faults(walk: Walk) -> Vec<String> {
     let mut found: Vec<String> = walk.met.iter().flat_map(form).collect();
     // Of a walk that was stopped short, nobody knows which fields were to follow.
     if walk.ended {

@@ -9,10 +9,12 @@ mod leads;
 mod sections;
 mod streams;
 mod tables;
+mod writing;
 
 use scp::Refusal;
 
 use crate::input::Size;
+pub use writing::found as found_in_job;
 
 /// What is said if nothing was found, which would be a fault of this module.
 const NOTHING: &str = "nothing that this tool knows how to explain";

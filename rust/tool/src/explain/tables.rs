@@ -60,6 +60,15 @@ pub fn faults(record: &[u8]) -> Vec<String> {
     sections::data(record, SECTION_2).map_or_else(Vec::new, |data| parse(data).faults)
 }
 
+/// What breaks the rules of Section 2's data where they stand alone, with no spare byte.
+pub fn alone(data: &[u8]) -> Vec<String> {
+    let mut faults = parse(data).faults;
+    if faults.is_empty() {
+        faults.push("a byte stands after the last table, or after the number 19999".to_string());
+    }
+    faults
+}
+
 /// The tables of a record that keeps the rules; none without Section 2.
 pub fn tables(record: &[u8]) -> Option<Vec<Vec<Structure>>> {
     let data = sections::data(record, SECTION_2)?;

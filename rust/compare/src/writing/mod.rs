@@ -1,0 +1,275 @@
+//! Writing a record, held against the judge's: output and work space of every kind of length, jobs that break several rules
+//! at once, and what is written read back by the library's own reader.
+
+pub mod counts;
+pub mod edges;
+
+use judge::make::{self, Rng, ToWrite};
+use judge::{Refused, Writing};
+use scp::raw;
+
+use crate::calls::{hold, number, same, Difference};
+use crate::lent::{Lent, Space};
+use counts::{Answer, Counts};
+
+/// A job of more samples times tables is done with fewer lengths, as the judge's search takes its time.
+const LONG: usize = 1000;
+/// A record of more bytes is written with fewer lengths.
+const LONG_RECORD: usize = 20_000;
+/// Room that is always enough.
+const ROOM: usize = usize::MAX;
+/// The number of tables that names the default table.
+const DEFAULT: usize = 19_999;
+
+/// Compares on `count` jobs that the seed fixes. The counts, or what differs first and in which job.
+pub fn run(seed: u64, count: u64) -> Result<Counts, String> {
+    let mut counts = Counts::default();
+    for number in 0..count {
+        let mut rng = Rng::new(seed.wrapping_add(number.wrapping_mul(0x1_0000_0001)));
+        let job = make::to_write(&mut rng);
+        compare(&job, &mut rng, &mut counts)
+            .map_err(|difference| format!("seed {seed}, job {number}: {difference}"))?;
+    }
+    Ok(counts)
+}
+
+/// Does a job with the room that it comes with and with room of every kind of length, by the library and by the judge, and
+/// reads back what is written. All that the job lends has guards around it.
+pub fn compare(job: &ToWrite, rng: &mut Rng, counts: &mut Counts) -> Result<(), Difference> {
+    counts.jobs += 1;
+    counts.unequal += u64::from(job.counts.iter().any(|&count| count != job.counts[0]));
+    let bytes = [&job.section1, &job.section2, &job.ids].map(|bytes| Lent::new(bytes, rng));
+    let numbers = [&job.firsts, &job.counts].map(|numbers| Lent::new(numbers, rng));
+    let samples = Lent::new(&job.samples, rng);
+    let lent = Writing {
+        section1: bytes[0].lent(),
+        section2: bytes[1].lent(),
+        ids: bytes[2].lent(),
+        firsts: numbers[0].lent(),
+        counts: numbers[1].lent(),
+        samples: samples.lent(),
+        ..job.writing()
+    };
+    write(&lent, (job.work_len, job.out_len), rng, counts)?;
+    let judged = judge::write_record(&lent, ROOM, ROOM);
+    write_with_every_length(&lent, &judged, rng, counts)?;
+    wrapper(&lent, &judged)?;
+    if let Ok(record) = &judged {
+        read_back(&lent, record, counts)?;
+    }
+    let untouched = bytes.iter().all(Lent::is_untouched)
+        && numbers.iter().all(Lent::is_untouched)
+        && samples.is_untouched();
+    hold(untouched, "scp_write_record: what is only read was changed")
+}
+
+/// Writes with work space and output of just enough, one too few, no and far too many bytes, each with each; of a long job
+/// those that are one too few.
+fn write_with_every_length(
+    job: &Writing,
+    judged: &Result<Vec<u8>, Refused>,
+    rng: &mut Rng,
+    counts: &mut Counts,
+) -> Result<(), Difference> {
+    let work = work_of(job);
+    let out = judged.as_ref().map_or(0, Vec::len);
+    if job.samples.len() * tables_in(job.section2).max(1) > LONG || out > LONG_RECORD {
+        write(job, (work, out.saturating_sub(1)), rng, counts)?;
+        return write(job, (work.saturating_sub(1), out), rng, counts);
+    }
+    let mut lengths = |enough: usize| {
+        let far = match rng.one_in(40) {
+            true => scp::RECORD_MAX + rng.small(3000),
+            false => enough + 100 + rng.small(3000),
+        };
+        let mut lengths = vec![enough, enough.saturating_sub(1), 0, far];
+        lengths.sort();
+        lengths.dedup();
+        lengths
+    };
+    let (works, outs) = (lengths(work), lengths(out));
+    for &work in &works {
+        for &out in &outs {
+            write(job, (work, out), rng, counts)?;
+        }
+    }
+    Ok(())
+}
+
+/// Writes with so many bytes of work space and of output.
+pub fn write(
+    job: &Writing,
+    (work_n, out_n): (usize, usize),
+    rng: &mut Rng,
+    counts: &mut Counts,
+) -> Result<(), Difference> {
+    let judged = judge::write_record(job, work_n, out_n);
+    by_library(job, (work_n, out_n), &judged, rng)?;
+    counts.answer(Answer::of(&judged, !job.section2.is_empty()));
+    Ok(())
+}
+
+/// Has the library write with so many bytes of work space and of output, with guards around both, and holds what comes back
+/// to what is expected: the answer, the record, and the work space cleared or untouched.
+pub fn by_library(
+    job: &Writing,
+    (work_n, out_n): (usize, usize),
+    expected: &Result<Vec<u8>, Refused>,
+    rng: &mut Rng,
+) -> Result<(), Difference> {
+    let mut work = Space::<u8>::new(work_n, rng);
+    let mut out = Space::<u8>::new(out_n, rng);
+    let answer = call(job, work.lent(), out.lent());
+    let (right, record): (_, &[u8]) = match expected {
+        Err(refused) => (
+            raw::ScpWritten {
+                refusal: refused.number,
+                bytes: 0,
+            },
+            &[],
+        ),
+        Ok(record) => (
+            raw::ScpWritten {
+                refusal: 0,
+                bytes: record.len() as u32,
+            },
+            record,
+        ),
+    };
+    let asked = |holds, words: &str| {
+        let call = format!("scp_write_record, work space of {work_n}, output of {out_n}");
+        hold(holds, &format!("{call}: {words}"))
+    };
+    asked(
+        answer == right,
+        &format!("the library answers {answer:?}, and right is {right:?}"),
+    )?;
+    asked(
+        out.holds(record),
+        "the record differs, or other bytes were changed",
+    )?;
+    let cleared = match expected {
+        Ok(_) => !job.section2.is_empty(),
+        Err(refused) => refused.work_cleared,
+    };
+    match cleared {
+        true => asked(work.is_cleared(), "the work space is not zeros, all of it"),
+        false => asked(work.is_untouched(), "the work space was changed"),
+    }
+}
+
+/// The call itself.
+fn call(job: &Writing, work: &mut [u8], out: &mut [u8]) -> raw::ScpWritten {
+    // SAFETY: all are slices lent for the call, which only reads those of the job; those that it writes to share no memory.
+    unsafe {
+        raw::scp_write_record(
+            job.section1.as_ptr(),
+            job.section1.len(),
+            job.section2.as_ptr(),
+            job.section2.len(),
+            job.version,
+            job.flags,
+            job.step,
+            job.interval,
+            job.order,
+            job.firsts.as_ptr(),
+            job.firsts.len(),
+            job.counts.as_ptr(),
+            job.counts.len(),
+            job.ids.as_ptr(),
+            job.ids.len(),
+            job.samples.as_ptr(),
+            job.samples.len(),
+            work.as_mut_ptr(),
+            work.len(),
+            out.as_mut_ptr(),
+            out.len(),
+        )
+    }
+}
+
+/// Asks that the library's own calls give back what was to be written: the fields byte for byte, and each lead with its first
+/// sample number, ID, flags, step, interval, order and samples.
+pub fn read_back(job: &Writing, record: &[u8], counts: &mut Counts) -> Result<(), Difference> {
+    let opened =
+        scp::open(record).map_err(|refusal| format!("what is written opens: {refusal}"))?;
+    same("pointers written", opened.len(), 12)?;
+    let fields = scp::fields(record).map_err(|refusal| format!("fields: {refusal}"))?;
+    let mut shown = Vec::new();
+    for field in fields {
+        let bytes = &record[field.range];
+        shown.push(field.tag);
+        shown.extend((bytes.len() as u16).to_le_bytes());
+        shown.extend(bytes);
+    }
+    shown.extend([255, 0, 0]);
+    hold(
+        shown == job.section1,
+        "fields: not those that were to be written",
+    )?;
+
+    let mut samples = job.samples;
+    for (at, &count) in job.counts.iter().enumerate() {
+        let (lead, others) = samples.split_at(count as usize);
+        samples = others;
+        let said = |refusal| format!("lead {}: {refusal}", at + 1);
+        let entry = scp::lead(record, at + 1).map_err(said)?;
+        let (read, back) = scp::samples(record, at + 1).map_err(said)?;
+        let right = scp::Lead {
+            id: job.ids[at],
+            flags: job.flags & 0xFE,
+            step: job.step,
+            interval: job.interval,
+            first: job.firsts[at],
+            count: lead.len(),
+        };
+        same(&format!("lead {}", at + 1), read, right)?;
+        let last = job.firsts[at] + (count - 1);
+        let said = (entry.order, entry.last, entry.leads);
+        same("entry", said, (job.order, last, job.ids.len()))?;
+        hold(back == lead, "samples: not those that were to be written")?;
+    }
+    counts.written += 1;
+    counts.bytes += record.len() as u64;
+    counts.leads += job.ids.len() as u64;
+    counts.samples += job.samples.len() as u64;
+    Ok(())
+}
+
+/// The safe wrapper says the same as the judge.
+fn wrapper(job: &Writing, judged: &Result<Vec<u8>, Refused>) -> Result<(), Difference> {
+    let job = scp::Job {
+        section1: job.section1,
+        section2: job.section2,
+        version: job.version,
+        flags: job.flags,
+        step: job.step,
+        interval: job.interval,
+        order: job.order,
+        firsts: job.firsts,
+        counts: job.counts,
+        ids: job.ids,
+        samples: job.samples,
+    };
+    let written = scp::written(&job).map_err(scp::Refusal::number);
+    let judged = judged.clone().map_err(|refused| refused.number);
+    same("written", number(&written), number(&judged))?;
+    hold(written == judged, "written: not the judge's record")
+}
+
+/// The work space that a job needs, where its leads may be so long.
+pub fn work_of(job: &Writing) -> usize {
+    let longest = job.counts.iter().copied().max().unwrap_or(0) as usize;
+    longest.min(scp::SAMPLES_MAX) * tables_in(job.section2)
+}
+
+/// How many tables the data of a Section 2 say that they have, where they may have so many.
+fn tables_in(section2: &[u8]) -> usize {
+    match section2 {
+        [low, high, ..] => match usize::from(u16::from_le_bytes([*low, *high])) {
+            DEFAULT => 1,
+            tables => tables.min(scp::TABLES_MAX),
+        },
+        _ => 0,
+    }
+}

@@ -1,0 +1,80 @@
+//! `tigmavresh write JOB OUT`: a record from a job.
+
+use std::path::Path;
+
+use scp::Refusal;
+
+use super::leads::how_many;
+use crate::explain;
+use crate::job;
+use crate::making::Making;
+use crate::output::{shown, shown_target, Output};
+use crate::refused;
+use crate::status::Status;
+use crate::store::Target;
+
+/// Makes a record from a job, and puts it where it is asked for.
+pub fn run(file: &Path, out: &Path, force: bool, output: &mut Output) -> Status {
+    let target = match Target::of(out, force) {
+        Ok(target) => target,
+        Err(error) => {
+            output.complain_of_target(out, &error);
+            return Status::NotDone;
+        }
+    };
+    let making = match job::read(file) {
+        Ok(making) => making,
+        Err(words) => {
+            output.remark(&[words]);
+            return Status::NotDone;
+        }
+    };
+    let record = match scp::written(&making.job()) {
+        Ok(record) => record,
+        Err(refusal) => {
+            refuse(file, &making, refusal, &target, output);
+            return Status::Refused;
+        }
+    };
+    if let Err(error) = target.put(&record, |back| making.is_said_by(back)) {
+        output.complain_of_target(out, &error);
+        return Status::NotDone;
+    }
+    let line = format!(
+        "{}: written ({} bytes; {}, {} samples)",
+        shown_target(out),
+        record.len(),
+        how_many(making.ids.len()),
+        making.samples.len()
+    );
+    say(&[line], &target, output);
+    Status::Accepted
+}
+
+/// Says that a job is refused: the number, what its rule asks, and what was found.
+fn refuse(file: &Path, making: &Making, refusal: Refusal, target: &Target, output: &mut Output) {
+    let (name, number) = (shown(file), refusal.number());
+    let mut lines = vec![format!("{name}: refused, number {number}")];
+    lines.extend(refused::told(
+        refusal,
+        &explain::found_in_job(making, refusal),
+    ));
+    lines.push(String::new());
+    lines.push(refused::JOB_NOTE.to_string());
+    say(&lines, target, output);
+}
+
+/// Says lines on standard output, or on standard error where a record goes there.
+pub fn say(lines: &[String], target: &Target, output: &mut Output) {
+    if target.is_standard() {
+        let lines: Vec<String> = lines
+            .iter()
+            .filter(|line| !line.is_empty())
+            .cloned()
+            .collect();
+        return output.remark(&lines);
+    }
+    for line in lines {
+        output.line(line);
+    }
+}

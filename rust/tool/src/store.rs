@@ -1,0 +1,188 @@
+//! Putting a record where it is asked for: whole or not at all.
+
+use std::fs::{self, File, Permissions};
+use std::io::{self, ErrorKind, IsTerminal, Write};
+use std::path::{Path, PathBuf};
+use std::process;
+
+use crate::input;
+use crate::output::shown;
+
+/// How many names are tried for a temporary file.
+const NAMES: usize = 100;
+
+/// Where a record is to be put.
+pub enum Target {
+    /// Standard output, which is no terminal.
+    Standard,
+    /// A file.
+    File {
+        path: PathBuf,
+        /// The permissions of the file that is there and may be replaced; else there is none.
+        replaced: Option<Permissions>,
+    },
+}
+
+impl Target {
+    /// The place that a path names, if a record may be put there: standard output unless it is a terminal, a name that is not
+    /// taken or, with `force`, a file.
+    pub fn of(path: &Path, force: bool) -> io::Result<Target> {
+        if input::is_standard(path) {
+            return match io::stdout().is_terminal() {
+                true => Err(io::Error::other("a record is not written to a terminal")),
+                false => Ok(Target::Standard),
+            };
+        }
+        match fs::symlink_metadata(path) {
+            Ok(_) => Target::taken(path, force),
+            Err(error) if error.kind() == ErrorKind::NotFound => Target::free(path),
+            Err(error) => Err(error),
+        }
+    }
+
+    /// A name that is not taken, in a folder that is there.
+    fn free(path: &Path) -> io::Result<Target> {
+        let folder = folder_of(path);
+        if !folder.is_dir() {
+            let words = format!("there is no folder {}", shown(folder));
+            return Err(io::Error::other(words));
+        }
+        Ok(Target::File {
+            path: path.to_path_buf(),
+            replaced: None,
+        })
+    }
+
+    /// A name that is taken: by a file, or by a link to one, which is followed.
+    fn taken(path: &Path, force: bool) -> io::Result<Target> {
+        let metadata = match fs::metadata(path) {
+            Err(error) if error.kind() == ErrorKind::NotFound => {
+                return Err(io::Error::other("it is a link that leads nowhere"));
+            }
+            metadata => metadata?,
+        };
+        if !metadata.is_file() {
+            return Err(io::Error::other("it is there, and is no file"));
+        }
+        if !force {
+            let words = "it is there already, and is replaced only with --force";
+            return Err(io::Error::other(words));
+        }
+        Ok(Target::File {
+            path: fs::canonicalize(path)?,
+            replaced: Some(metadata.permissions()),
+        })
+    }
+
+    /// Whether it is standard output.
+    pub fn is_standard(&self) -> bool {
+        matches!(self, Target::Standard)
+    }
+
+    /// Puts a record there. Of a file it is first put beside, under another name, synced, read back and compared; what was
+    /// read back is then checked, and only then it takes its name. On a failure nothing is left of it, and what was there
+    /// still is.
+    pub fn put(
+        &self,
+        record: &[u8],
+        check: impl Fn(&[u8]) -> Result<(), String>,
+    ) -> io::Result<()> {
+        match self {
+            Target::Standard => {
+                check(record).map_err(io::Error::other)?;
+                let mut output = io::stdout().lock();
+                output.write_all(record)?;
+                output.flush()
+            }
+            Target::File { path, replaced } => {
+                let mut temporary = Temporary::beside(path)?;
+                temporary.fill(record, replaced)?;
+                let back = fs::read(&temporary.path)?;
+                if back != record {
+                    let words = "what is read back is not what was written";
+                    return Err(io::Error::other(words));
+                }
+                check(&back).map_err(io::Error::other)?;
+                temporary.take_name(path, replaced.is_some())
+            }
+        }
+    }
+}
+
+/// The folder that a path is in.
+fn folder_of(path: &Path) -> &Path {
+    match path.parent() {
+        Some(folder) if !folder.as_os_str().is_empty() => folder,
+        _ => Path::new("."),
+    }
+}
+
+/// A file beside the one that is to be, gone when it is dropped.
+struct Temporary {
+    path: PathBuf,
+    file: File,
+    renamed: bool,
+}
+
+impl Temporary {
+    /// A new file in the same folder, so that it can be renamed.
+    fn beside(path: &Path) -> io::Result<Temporary> {
+        let folder = folder_of(path);
+        let mut taken = io::Error::other("no name for a temporary file is free");
+        for number in 0..NAMES {
+            let path = folder.join(format!(".tigmavresh-{}-{number}.tmp", process::id()));
+            match File::options().write(true).create_new(true).open(&path) {
+                Ok(file) => {
+                    return Ok(Temporary {
+                        path,
+                        file,
+                        renamed: false,
+                    })
+                }
+                Err(error) if error.kind() == ErrorKind::AlreadyExists => taken = error,
+                Err(error) => return Err(error),
+            }
+        }
+        Err(taken)
+    }
+
+    /// Writes all of a record, down to the disk.
+    fn fill(&mut self, record: &[u8], permissions: &Option<Permissions>) -> io::Result<()> {
+        self.file.write_all(record)?;
+        if let Some(permissions) = permissions {
+            self.file.set_permissions(permissions.clone())?;
+        }
+        self.file.sync_all()
+    }
+
+    /// Gives the file its name. Where no file is to be replaced, none is: a second name is given to it, which fails if that
+    /// is taken by now. Where the file system has no second names, it is looked at once more.
+    fn take_name(mut self, path: &Path, replaces: bool) -> io::Result<()> {
+        match replaces {
+            true => self.rename(path)?,
+            false => match fs::hard_link(&self.path, path) {
+                Ok(()) => {}
+                Err(error) if error.kind() == ErrorKind::AlreadyExists => return Err(error),
+                Err(_) if fs::symlink_metadata(path).is_err() => self.rename(path)?,
+                Err(error) => return Err(error),
+            },
+        }
+        // Not every file system can sync a folder; the record has its name by now.
+        let _ = File::open(folder_of(path)).and_then(|folder| folder.sync_all());
+        Ok(())
+    }
+
+    fn rename(&mut self, path: &Path) -> io::Result<()> {
+        fs::rename(&self.path, path)?;
+        self.renamed = true;
+        Ok(())
+    }
+}
+
+impl Drop for Temporary {
+    fn drop(&mut self) {
+        if !self.renamed {
+            let _ = fs::remove_file(&self.path);
+        }
+    }
+}
