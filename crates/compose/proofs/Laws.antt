@@ -50,7 +50,8 @@ module _ (counts : List ℕ) (i most : ℕ) (h : 0 < i) (g : i ≤ length counts
   longest-old l = rw (back-cons counts i h g, ← e, lt-leb most (getD counts (i - 1) 0) l)
 
 -- Sections 1 and 2 have no part in 17
-pub right-apart : (s1 s2 : List ℕ) (head : Head) (firsts counts ids : List ℕ) (xs : List ℤ) {r : Bool} → r ≡ jobRight (jobOf [] [] head firsts counts ids xs)
+pub right-apart : (s1 s2 : List ℕ) (head : Head) (firsts counts ids : List ℕ) (xs : List ℤ) {r : Bool} → r ≡ jobRight
+    (jobOf [] [] head firsts counts ids xs)
     → r ≡ jobRight (jobOf s1 s2 head firsts counts ids xs)
 unfolding jobRight
 right-apart s1 s2 head firsts counts ids xs e = e
@@ -70,7 +71,8 @@ module _ (j : Job) (work : ℕ) where
       unfolding jobRefusal
       refused-given e = rw (asked, header, e)
 
-      module _ (given : givenRight (j .section2) ≡ true) (m n : ℕ) (long : m ≡ longest (j .counts)) (many : n ≡ length (tablesGiven (j .section2))) where
+      module _ (given : givenRight (j .section2) ≡ true) (m n : ℕ) (long : m ≡ longest (j .counts))
+          (many : n ≡ length (tablesGiven (j .section2))) where
         pub refused-work : work < m * n → 11 ≡ jobRefusal j work
         unfolding jobRefusal
         refused-work l = rw (asked, header, given, ← long, ← many, lt-leb (m * n) work l)

@@ -17,7 +17,8 @@ use Rattle.layout.proofs.Laws.{length-leadsData, length-recordBytes}
 use Rattle.encode.specs.InnerEncode.{clearedIf, heldFor}
 use Rattle.encode.proofs.Laws.{cleared-after}
 use Rattle.compose.specs.declared.Written.{Written}
-use Rattle.compose.specs.Writing.{Job, total, cut, streamsOf, allShort, recordOf, foundRefusal, writtenAs, jobRefusal, Wrote, refused, searched}
+use Rattle.compose.specs.Writing.{Job, total, jobRefusal, cut, streamsOf, allShort, recordOf, foundRefusal, writtenAs}
+use Rattle.compose.specs.Writing.{Wrote, refused, searched}
 use Rattle.compose.specs.InnerSizes.{numberWith, numberFor, SizedAs, StreamsFor}
 use Rattle.compose.specs.InnerJob.{refusalFor, Answered}
 use Rattle.compose.proofs.Streams.{sizes-streams}
@@ -38,7 +39,8 @@ with-none bs = go (leb (bytesFor (length bs)) 65535)
     go true = refl
     go false = refl
 
-with-some : (bs : List ℕ) (streams : List (List ℕ)) → numberWith (some bs) (cond (allShort streams) 0 16) ≡ cond (allShort (packed bs ∷ streams)) 0 16
+with-some : (bs : List ℕ) (streams : List (List ℕ)) → numberWith (some bs) (cond (allShort streams) 0 16) ≡ cond
+    (allShort (packed bs ∷ streams)) 0 16
 unfolding allShort
 with-some bs streams = rw (length-packed bs) (go (leb (bytesFor (length bs)) 65535) (allShort streams))
   where
@@ -68,20 +70,28 @@ nothing-refused number size room = go (eqb number 0) refl (leb size 1048576) ref
     go true e false f r g z = absurd (omega arith)
     go false e s f r g z = absurd (eqb-false number 0 e z)
 
-module _ (j : Job) (sizes : List ℕ) (number size : ℕ) (firsts : length (j .firsts) ≡ length (j .counts)) (ids : length (j .ids) ≡ length (j .counts))
+module _ (j : Job) (sizes : List ℕ) (number size : ℕ) (firsts : length (j .firsts) ≡ length (j .counts))
+    (ids : length (j .ids) ≡ length (j .counts))
     (long : length sizes ≡ length (j .counts)) (S : SizedAs (j .section2) (j .order) (cut (j .counts) (j .samples)) number sizes)
-    (sized : size ≡ min 1048577 (recordSize (length (j .section1)) (length (j .section2)) (2 + 9 * length (j .counts)) (6 + 2 * length (j .counts) + total sizes))) where
+    (sized : size ≡ min 1048577 (recordSize (length (j .section1)) (length (j .section2)) (2 + 9 * length (j .counts))
+    (6 + 2 * length (j .counts) + total sizes))) where
   -- the streams, where the number is 0
   sizes-are : (streams : List (List ℕ)) → number ≡ 0 → streamsOf (S .founds) ≡ some streams → sizes ≡ map length streams
   sizes-are streams z e =
       sizes-streams (subst (λ (n : ℕ). SizedAs (j .section2) (j .order) (cut (j .counts) (j .samples)) n sizes) z S) (S .founds, S .all, e)
 
   length-record : (streams : List (List ℕ)) → sizes ≡ map length streams
-      → length (recordOf j streams) ≡ recordSize (length (j .section1)) (length (j .section2)) (2 + 9 * length (j .counts)) (6 + 2 * length (j .counts) + total sizes)
+      → length (recordOf j streams) ≡ recordSize (length (j .section1)) (length (j .section2)) (2 + 9 * length (j .counts))
+      (6 + 2 * length (j .counts) + total sizes)
   unfolding recordOf
   length-record streams are =
-      length-recordBytes (j .version) (j .section1) (j .section2) (leadsData (j .flags) (j .firsts) (j .counts) (j .ids)) (streamsData (j .step) (j .interval) (j .order) streams)
-      ∙ rw (length-leadsData (j .flags) (j .firsts) (j .counts) (j .ids) firsts ids, length-data (j .step) (j .interval) (j .order) sizes streams are, long)
+      length-recordBytes (j .version) (j .section1) (j .section2) (leadsData (j .flags) (j .firsts) (j .counts) (j .ids))
+      (streamsData (j .step) (j .interval) (j .order) streams)
+      ∙ rw (
+        length-leadsData (j .flags) (j .firsts) (j .counts) (j .ids) firsts ids,
+        length-data (j .step) (j .interval) (j .order) sizes streams are,
+        long,
+      )
 
   refusal-is : (room : ℕ) → refusalFor number size room ≡ foundRefusal j room (streamsOf (S .founds))
   unfolding foundRefusal
@@ -93,7 +103,8 @@ module _ (j : Job) (sizes : List ℕ) (number size : ℕ) (firsts : length (j .f
       fits streams z e = cases (leb (length (recordOf j streams)) 1048576) refl
         where
           cases : (b : Bool) → leb (length (recordOf j streams)) 1048576 ≡ b
-              → unless (leb size 1048576) 16 (unless (leb size room) 11 0) ≡ unless b 16 (unless (leb (length (recordOf j streams)) room) 11 0)
+              → unless (leb size 1048576) 16 (unless (leb size room) 11 0) ≡ unless b 16
+              (unless (leb (length (recordOf j streams)) room) 11 0)
           cases true f =
               let n = length-record streams (sizes-are streams z e) in
               let same : size ≡ length (recordOf j streams) = omega (arith, n, sized, leb-true (length (recordOf j streams)) 1048576 f) in
@@ -103,7 +114,8 @@ module _ (j : Job) (sizes : List ℕ) (number size : ℕ) (firsts : length (j .f
               rw (lt-leb size 1048576 (omega (arith, n, sized, leb-false (length (recordOf j streams)) 1048576 f)))
 
       short : (streams : List (List ℕ)) → streamsOf (S .founds) ≡ some streams → (s : Bool) → number ≡ cond s 0 16
-          → refusalFor number size room ≡ unless (s && leb (length (recordOf j streams)) 1048576) 16 (unless (leb (length (recordOf j streams)) room) 11 0)
+          → refusalFor number size room ≡ unless (s && leb (length (recordOf j streams)) 1048576) 16
+          (unless (leb (length (recordOf j streams)) room) 11 0)
       short streams e true n = rw (eq-eqb number 0 n) (fits streams n e)
       short streams e false n = rw n
 
@@ -129,9 +141,15 @@ module _ (j : Job) (sizes : List ℕ) (number size : ℕ) (firsts : length (j .f
       go (inl (f, n)) = absurd (omega (arith, nothing-refused number size (length out) e .0, S .says ∙ n))
       go (inr (streams, f, n)) =
           let w = nothing-refused number size (length out) e in
-          let is : foundRefusal j (length out) (some streams) ≡ 0 = ap (foundRefusal j (length out)) (sym f) ∙ sym (refusal-is (length out)) ∙ e in
-          let same : size ≡ length (recordOf j streams) = omega (arith, length-record streams (sizes-are streams (w .0) f), sized, w .1) in
-          (S .founds, S .all, rw (f, is, ← same), rw (f, is, ← same) (ap (λ (l : List ℕ). l ++ drop size out) (put streams (S .founds, S .all, f))))
+          let is : foundRefusal j (length out) (some streams) ≡ 0 = ap (foundRefusal j (length out)) (sym f) ∙ sym
+          (refusal-is (length out)) ∙ e in
+          let same : size ≡ length (recordOf j streams) = omega (arith, length-record streams (sizes-are streams (w .0) f), sized, w .1) in (
+            S .founds,
+            S .all,
+            rw (f, is, ← same),
+            rw (f, is, ← same)
+                (ap (λ (l : List ℕ). l ++ drop size out) (put streams (S .founds, S .all, f))),
+          )
 
 -- ---- the job
 

@@ -38,12 +38,14 @@ module _ (step interval order : ℕ) (sizes : List ℕ) (streams : List (List �
   pub length-data : length (streamsData step interval order streams) ≡ 6 + 2 * length sizes + total sizes
   length-data = length-streamsData step interval order streams ∙ rw (are, total-joined streams, length-map streams length)
 
-  pub section6-size : {n : ℕ} → n ≡ sizeFor (6 + 2 * length sizes + total sizes) → n ≡ sizeFor (length (streamsData step interval order streams))
+  pub section6-size : {n : ℕ} → n ≡ sizeFor (6 + 2 * length sizes + total sizes) → n ≡ sizeFor
+      (length (streamsData step interval order streams))
   section6-size h = h ∙ ap sizeFor (sym length-data)
 
   module _ (l x y z zs : List ℕ) (from end : ℕ) (start : from ≡ 22 + 2 * length sizes) (stop : end ≡ from + total sizes)
       (size : length l ≡ sizeFor (6 + 2 * length sizes + total sizes))
-      (head : x ≡ take 16 l ++ (bytesOf 2 step ++ (bytesOf 2 interval ++ (order ∷ (0 ∷ (byteCounts sizes ++ drop (22 + 2 * length sizes) l))))))
+      (head : x ≡ take 16 l ++ (bytesOf 2 step ++
+      (bytesOf 2 interval ++ (order ∷ (0 ∷ (byteCounts sizes ++ drop (22 + 2 * length sizes) l))))))
       (body : y ≡ putMid from (end - from) x zs) (put : zs ≡ joined streams) (long : length y ≡ length l)
       (spare : z ≡ take end y ++ replicate (length y - end) 0) where
     filled-head : Filled l 16 front from x
@@ -109,7 +111,8 @@ module _ (j : Job) (streams : List (List ℕ)) where
   -- all sections are written, each behind the one before, and then the size and the check
   pub record-put : (l x o p0 p1 p2 p3 p6 : List ℕ) (s1 s2 s3 s6 : ℕ)
       → Filled l 6 ((((([] ++ p0) ++ p1) ++ p2) ++ p3) ++ p6) (length l) x
-      → s1 ≡ sizeFor (length (j .section1)) → s2 ≡ givenSize (length (j .section2)) → s3 ≡ sizeFor (length data3) → s6 ≡ sizeFor (length data6)
+      → s1 ≡ sizeFor (length (j .section1)) → s2 ≡ givenSize (length (j .section2)) → s3 ≡ sizeFor (length data3) → s6 ≡ sizeFor
+      (length data6)
       → length l ≡ recordSize (length (j .section1)) (length (j .section2)) (length data3) (length data6)
       → p0 ≡ sectionBytes 0 (j .version) letters (pointersData s1 s2 s3 s6)
       → p1 ≡ sectionBytes 1 (j .version) noLetters (j .section1)
@@ -121,7 +124,8 @@ module _ (j : Job) (streams : List (List ℕ)) where
   record-put l x o p0 p1 p2 p3 p6 s1 s2 s3 s6 f e1 e2 e3 e6 size h0 h1 h2 h3 h6 sealed =
       let long : length x ≡ recordSize (length (j .section1)) (length (j .section2)) (length data3) (length data6) =
       filled-length f (omega arith) ∙ size in
-      let behind : drop 6 x ≡ sectionBytes 0 (j .version) letters (pointersData (sizeFor (length (j .section1))) (givenSize (length (j .section2)))
+      let behind : drop 6 x ≡ sectionBytes 0 (j .version) letters
+      (pointersData (sizeFor (length (j .section1))) (givenSize (length (j .section2)))
       (sizeFor (length data3)) (sizeFor (length data6))) ++ (p1 ++ (p2 ++ (p3 ++ p6))) =
       filled-behind f ∙ rw (drop-length l, append-nil ((((([] ++ p0) ++ p1) ++ p2) ++ p3) ++ p6), h0, e1, e2, e3, e6) (simp append-assoc) in
       sealed ∙ rw (long, behind, h1, h2, h3, h6)

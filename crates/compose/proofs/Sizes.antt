@@ -67,7 +67,14 @@ module _ (counts : List ℕ) (k : ℕ) (h : 0 < k) (g : k ≤ length counts) whe
       let e : length counts - (k - 1) ≡ suc (length counts - k) = omega arith in
       let f : suc (k - 1) ≡ k = omega arith in
       let s = set sizes (k - 1) v in
-      rw (e, drop-cons s (k - 1) 0 (simp length-set (omega arith)), getD-set-same sizes (k - 1) v 0 (omega arith), drop-set-lt (suc (k - 1)) sizes (k - 1) v (omega arith), f)
+      rw (
+        e,
+        drop-cons s (k - 1) 0 (simp length-set (omega arith)),
+        getD-set-same sizes (k - 1) v 0 (omega arith),
+        drop-set-lt
+            (suc (k - 1)) sizes (k - 1) v (omega arith),
+        f,
+      )
 
   pub total-back : total (drop (k - 1) counts) ≡ getD counts (k - 1) 0 + total (drop k counts)
   unfolding total
@@ -96,7 +103,8 @@ module _ (counts : List ℕ) (k : ℕ) (h : 0 < k) (g : k ≤ length counts) whe
         let e : at - (at - c) ≡ c = omega (arith, room-back) in
         ap (λ (n : ℕ). take n (drop (at - c) xs)) e
 
-    pub length-lent : (xs : List ℤ) → length xs ≡ all → let c = getD counts (k - 1) 0 in length (take (at - (at - c)) (drop (at - c) xs)) ≡ c
+    pub length-lent : (xs : List ℤ) → length xs ≡ all → let c = getD counts (k - 1) 0 in length (take (at - (at - c)) (drop (at - c) xs))
+        ≡ c
     length-lent xs long =
         let c = getD counts (k - 1) 0 in
         ap length (lent xs) ∙ length-take-le c (drop (at - c) xs) (rw (length-drop (at - c) xs) (omega (arith, room-back, total-back)))
@@ -117,7 +125,8 @@ module _ (counts : List ℕ) (k : ℕ) (h : 0 < k) (g : k ≤ length counts) whe
     }
 
 pub sized-none : (s2 : List ℕ) (order : ℕ) (counts : List ℕ) (xs : List ℤ) (sizes : List ℕ)
-    → SizedAs s2 order (cut (drop (length counts) counts) (drop (length xs) xs)) 0 (take (length counts - length counts) (drop (length counts) sizes))
+    → SizedAs s2 order (cut (drop (length counts) counts) (drop (length xs) xs)) 0
+    (take (length counts - length counts) (drop (length counts) sizes))
 unfolding cut numberFor
 sized-none s2 order counts xs sizes =
     let e : length counts - length counts ≡ 0 = omega arith in

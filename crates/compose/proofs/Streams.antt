@@ -53,7 +53,8 @@ Known s2 order counts xs sizes k =
     (bs : List ℕ) × Shortest (tablesGiven s2) (differences order (take (getD counts k 0) (drop (total (take k counts)) xs))) bs
     × (bytesFor (length bs) ≤ 65535) × (bytesFor (length bs) ≡ getD sizes k 0)
 
-known-at : (s2 : List ℕ) (order : ℕ) (counts : List ℕ) (xs : List ℤ) (founds : List (Option (List ℕ))) → FoundAll s2 order (cut counts xs) founds
+known-at : (s2 : List ℕ) (order : ℕ) (counts : List ℕ) (xs : List ℤ) (founds : List (Option (List ℕ))) → FoundAll s2 order
+    (cut counts xs) founds
     → numberFor founds ≡ 0 → (k : ℕ) → k < length counts → Known s2 order counts xs (map sizeFound founds) k
 unfolding cut numberFor total
 known-at s2 order [] xs founds all z k h = absurd (omega arith)
@@ -114,7 +115,8 @@ module _ (s2 : List ℕ) (order : ℕ) (counts : List ℕ) (xs : List ℤ) (size
   one-stream bs f = unique (tablesGiven s2) (differences order samples) bs (known-here .0) f (known-here .1)
 
   -- the second search finds the stream that was sized
-  pub bits-sized : (bits : ℕ) → Sized (tablesGiven s2) (differences order samples) bits → (bits < 524281) × (bytesFor bits ≡ getD sizes (k - 1) 0)
+  pub bits-sized : (bits : ℕ) → Sized (tablesGiven s2) (differences order samples) bits → (bits < 524281) ×
+      (bytesFor bits ≡ getD sizes (k - 1) 0)
   bits-sized bits F =
       let w = known-here in
       let e : F .0 ≡ some (w .0) = found-unique (tablesGiven s2) (differences order samples) (F .0) (some (w .0)) (F .1) (w .1) in
@@ -127,12 +129,15 @@ module _ (s2 : List ℕ) (order : ℕ) (counts : List ℕ) (xs : List ℤ) (size
       → zs ≡ packed bs ++ drop (bytesFor (length bs)) (midOf (from - getD sizes (k - 1) 0) (from - (from - getD sizes (k - 1) 0)) part))
       → ((streams : List (List ℕ)) → StreamsFor s2 order (cut (drop k counts) (drop at xs)) streams → drop from part ≡ joined streams)
       → (streams : List (List ℕ)) → StreamsFor s2 order (cut (drop (k - 1) counts) (drop (at - count) xs)) streams
-      → drop (from - getD sizes (k - 1) 0) (putMid (from - getD sizes (k - 1) 0) (from - (from - getD sizes (k - 1) 0)) part zs) ≡ joined streams
+      → drop (from - getD sizes (k - 1) 0) (putMid (from - getD sizes (k - 1) 0) (from - (from - getD sizes (k - 1) 0)) part zs)
+      ≡ joined streams
   unfolding joined
   put-more part zs from l m put later streams (founds, all′, e) =
-      drop-put part zs (from - getD sizes (k - 1) 0) from (omega arith) l ∙ go founds (rw (cut-back counts k h g at all here sum xs) at all′) e
+      drop-put part zs (from - getD sizes (k - 1) 0) from (omega arith) l ∙ go founds
+      (rw (cut-back counts k h g at all here sum xs) at all′) e
     where
-      go : (founds : List (Option (List ℕ))) → FoundAll s2 order (take count (drop (at - count) xs) ∷ cut (drop k counts) (drop at xs)) founds
+      go : (founds : List (Option (List ℕ))) → FoundAll s2 order
+          (take count (drop (at - count) xs) ∷ cut (drop k counts) (drop at xs)) founds
           → streamsOf founds ≡ some streams → zs ++ drop from part ≡ joined streams
       go (none ∷ founds) (lead F rest) e = absurd (none-first founds streams e)
       go (some bs ∷ founds) (lead F rest) e =
@@ -179,7 +184,8 @@ sizes-founds (some bs ∷ founds) streams z e =
     rw (w .2) (ap₂ _∷_ one (sizes-founds founds (w .0) (p .1) (w .1)))
 
 -- the sizes are those of the streams
-pub sizes-streams : {s2 : List ℕ} {order : ℕ} {xss : List (List ℤ)} {sizes : List ℕ} {streams : List (List ℕ)} → SizedAs s2 order xss 0 sizes
+pub sizes-streams : {s2 : List ℕ} {order : ℕ} {xss : List (List ℤ)} {sizes : List ℕ} {streams : List (List ℕ)}
+    → SizedAs s2 order xss 0 sizes
     → StreamsFor s2 order xss streams → sizes ≡ map length streams
 sizes-streams {streams = streams} S (founds, all, e) =
     let same = founds-unique (S .all) all in

@@ -1,5 +1,5 @@
 -- What stands once nothing is refused before the search. No public contract rests on this.
-use Prim.Native.Nat.{ℕ, _*_, _≤_}
+use Prim.Native.Nat.{ℕ, _+_, _*_, _≤_}
 use mathlib.Core.Path.{_≡_}
 use mathlib.Core.Bool.{true, cond}
 use mathlib.Core.List.{List}
@@ -8,9 +8,11 @@ use lib.Dec.{leb, eqb}
 use lib.ListN.{length}
 use Rattle.wire.specs.Rules.{allIn, unless}
 use Rattle.compiled.specs.InnerForm.{Holding}
+use Rattle.layout.specs.Layout.{recordSize}
 use Rattle.encode.specs.Encoding.{tablesGiven, givenRight}
 use Rattle.compose.specs.declared.Written.{Written}
-use Rattle.compose.specs.Writing.{Job, total, longest, leadAsked, cut, FoundAll, streamsOf, foundRefusal, writtenAs, outAs}
+use Rattle.compose.specs.Writing.{Job, total, longest, leadAsked, cut, FoundAll, streamsOf, recordOf, foundRefusal, writtenAs, outAs}
+use Rattle.compose.specs.InnerSizes.{SizedAs, StreamsFor}
 
 -- the job is asked right, the numbers hold its tables, and the work space has room for the longest lead
 abbrev pub Sound : Job → List ℕ → ℕ → Type 0
@@ -25,6 +27,19 @@ Sound j tab work =
     × (allIn 0 (length (j .counts)) (leadAsked (j .firsts) (j .counts)) ≡ true)
     × (givenRight (j .section2) ≡ true)
     × Holding (tablesGiven (j .section2)) tab
+
+-- the streams are sized, none is refused, and the output is as long as the record
+abbrev pub Fitting : Job → List ℕ → ℕ → Type 0
+Fitting j sizes room =
+    (length sizes ≡ length (j .counts))
+    × SizedAs (j .section2) (j .order) (cut (j .counts) (j .samples)) 0 sizes
+    × (room ≡ recordSize (length (j .section1)) (length (j .section2)) (2 + 9 * length (j .counts)) (6 + 2 * length sizes + total sizes))
+    × (room ≤ 1048576)
+
+-- the output is the job's record
+abbrev pub Put : Job → List ℕ → Type 0
+Put j out =
+    (streams : List (List ℕ)) → StreamsFor (j .section2) (j .order) (cut (j .counts) (j .samples)) streams → out ≡ recordOf j streams
 
 -- 15, 16 and 11 for the output, by the number that the streams ask for, the record's length and the room
 abbrev pub refusalFor : ℕ → ℕ → ℕ → ℕ

@@ -11,8 +11,8 @@ ghost use Rattle.compiled.specs.InnerForm.{Holding};
 ghost use Rattle.layout.specs.Layout.{sizeFor, sectionBytes, noLetters, joined, streamsData, givenSize, givenSection, recordSize};
 ghost use Rattle.encode.specs.Encoding.{tablesGiven, givenRight};
 ghost use Rattle.encode.specs.InnerEncode.{bitsFound, clearedIf};
-ghost use Rattle.compose.specs.Writing.{Job, jobOf, total, longest, leadAsked, jobRight, jobRefusal, cut, recordOf, writtenAs, Wrote};
-ghost use Rattle.compose.specs.InnerJob.{Sound, refusalFor, Answered};
+ghost use Rattle.compose.specs.Writing.{Job, jobOf, total, longest, leadAsked, jobRight, jobRefusal, cut, writtenAs, Wrote};
+ghost use Rattle.compose.specs.InnerJob.{Sound, Fitting, Put, refusalFor, Answered};
 ghost use Rattle.compose.specs.InnerSizes.{numberWith, SizedAs, StreamsFor};
 
 // What writing a record answers: 0 or a refusal number, and on a refusal nothing else; the record's length.
@@ -137,7 +137,9 @@ fn job_refusal(
     xs: &[i16],
     work: usize,
 ) -> u8
-    ensures { λ r. ⌜ r ≡ jobRefusal (jobOf (now (section1 .entry)) (now (section2 .entry)) head (now (firsts .entry)) (now (counts .entry)) (now (ids .entry)) (now (xs .entry))) work ⌝ }
+    ensures { λ r. ⌜ r ≡ jobRefusal
+        (jobOf (now (section1 .entry)) (now (section2 .entry)) head (now (firsts .entry)) (now (counts .entry)) (now (ids .entry))
+        (now (xs .entry))) work ⌝ }
 {
     if !job_right(head, firsts, counts, ids, xs) {
         return 17;
@@ -181,8 +183,11 @@ fn size_streams(
     sizes: &mut [u32],
 ) -> u8
     requires { ⌜ (givenRight (now section2) ≡ true) × Holding (tablesGiven (now section2)) (now tab) ⌝ }
-    requires { ⌜ (longest (now counts) ≤ 65536) × (longest (now counts) * length (tablesGiven (now section2)) ≤ length (now work)) × (total (now counts) ≡ length (now xs)) × (length (now counts) ≤ length (now sizes)) ⌝ }
-    ensures { λ r. ⌜ SizedAs (now (section2 .entry)) order (cut (now (counts .entry)) (now (xs .entry))) r (take (length (now (counts .entry))) (now (sizes .exit))) × (length (now (tab .entry)) ≡ 0 → now (work .exit) ≡ now (work .entry)) ⌝ }
+    requires { ⌜ (longest (now counts) ≤ 65536) × (longest (now counts) * length (tablesGiven (now section2)) ≤ length (now work))
+        × (total (now counts) ≡ length (now xs)) × (length (now counts) ≤ length (now sizes)) ⌝ }
+    ensures { λ r. ⌜ SizedAs (now (section2 .entry)) order (cut (now (counts .entry)) (now (xs .entry))) r
+        (take (length (now (counts .entry))) (now (sizes .exit)))
+        × (length (now (tab .entry)) ≡ 0 → now (work .exit) ≡ now (work .entry)) ⌝ }
 {
     let n = encode::table_count(section2);
     let mut k = counts.len();
@@ -212,22 +217,28 @@ fn put_streams(
     part: &mut [u8],
 )
     requires { ⌜ (givenRight (now section2) ≡ true) × Holding (tablesGiven (now section2)) (now tab) ⌝ }
-    requires { ⌜ (longest (now counts) ≤ 65536) × (longest (now counts) * length (tablesGiven (now section2)) ≤ length (now work)) × (total (now counts) ≡ length (now xs)) ⌝ }
-    requires { ⌜ (length (now sizes) ≡ length (now counts)) × (total (now sizes) ≡ length (now part)) × SizedAs (now section2) order (cut (now counts) (now xs)) 0 (now sizes) ⌝ }
-    ensures { λ _. ⌜ ((streams : List (List ℕ)) → StreamsFor (now (section2 .entry)) order (cut (now (counts .entry)) (now (xs .entry))) streams → now (part .exit) ≡ joined streams) × (length (now (tab .entry)) ≡ 0 → now (work .exit) ≡ now (work .entry)) ⌝ }
+    requires { ⌜ (longest (now counts) ≤ 65536) × (longest (now counts) * length (tablesGiven (now section2)) ≤ length (now work))
+        × (total (now counts) ≡ length (now xs)) ⌝ }
+    requires { ⌜ (length (now sizes) ≡ length (now counts)) × (total (now sizes) ≡ length (now part))
+        × SizedAs (now section2) order (cut (now counts) (now xs)) 0 (now sizes) ⌝ }
+    ensures { λ _. ⌜ ((streams : List (List ℕ))
+        → StreamsFor (now (section2 .entry)) order (cut (now (counts .entry)) (now (xs .entry))) streams
+        → now (part .exit) ≡ joined streams)
+        × (length (now (tab .entry)) ≡ 0 → now (work .exit) ≡ now (work .entry)) ⌝ }
 {
     let n = encode::table_count(section2);
     let mut k = counts.len();
     let mut at = xs.len();
     let mut from = part.len();
     while 0 < k {
-        k -= 1;
+        let lead = k - 1;
         let end = at;
-        at -= counts[k] as usize;
+        at = end - counts[lead] as usize;
         let to = from;
-        from -= sizes[k] as usize;
+        from = to - sizes[lead] as usize;
         let bits = encode::stream_bits(tab, n, &xs[at..end], order, work);
         encode::put_stream(tab, n, &xs[at..end], order, work, bits, &mut part[from..to]);
+        k = lead;
     }
 }
 
@@ -243,9 +254,15 @@ fn write_streams(
     part: &mut [u8],
 )
     requires { ⌜ (givenRight (now section2) ≡ true) × Holding (tablesGiven (now section2)) (now tab) ⌝ }
-    requires { ⌜ (longest (now counts) ≤ 65536) × (longest (now counts) * length (tablesGiven (now section2)) ≤ length (now work)) × (total (now counts) ≡ length (now xs)) ⌝ }
-    requires { ⌜ (length (now counts) ≤ 32) × (head .order ≤ 2) × (length (now sizes) ≡ length (now counts)) × SizedAs (now section2) (head .order) (cut (now counts) (now xs)) 0 (now sizes) × (length (now part) ≡ sizeFor (6 + 2 * length (now sizes) + total (now sizes))) ⌝ }
-    ensures { λ _. ⌜ ((streams : List (List ℕ)) → StreamsFor (now (section2 .entry)) (head .order) (cut (now (counts .entry)) (now (xs .entry))) streams → now (part .exit) ≡ sectionBytes 6 (head .version) noLetters (streamsData (head .step) (head .interval) (head .order) streams)) × (length (now (tab .entry)) ≡ 0 → now (work .exit) ≡ now (work .entry)) ⌝ }
+    requires { ⌜ (longest (now counts) ≤ 65536) × (longest (now counts) * length (tablesGiven (now section2)) ≤ length (now work))
+        × (total (now counts) ≡ length (now xs)) ⌝ }
+    requires { ⌜ (length (now counts) ≤ 32) × (head .order ≤ 2) × (length (now sizes) ≡ length (now counts))
+        × SizedAs (now section2) (head .order) (cut (now counts) (now xs)) 0 (now sizes)
+        × (length (now part) ≡ sizeFor (6 + 2 * length (now sizes) + total (now sizes))) ⌝ }
+    ensures { λ _. ⌜ ((streams : List (List ℕ))
+        → StreamsFor (now (section2 .entry)) (head .order) (cut (now (counts .entry)) (now (xs .entry))) streams
+        → now (part .exit) ≡ sectionBytes 6 (head .version) noLetters (streamsData (head .step) (head .interval) (head .order) streams))
+        × (length (now (tab .entry)) ≡ 0 → now (work .exit) ≡ now (work .entry)) ⌝ }
 {
     let from = 22 + 2 * sizes.len();
     let end = from + total_of(sizes);
@@ -331,9 +348,14 @@ fn put_record(
     sizes: &[u32],
     out: &mut [u8],
 )
-    requires { ⌜ Sound (jobOf (now section1) (now section2) head (now firsts) (now counts) (now ids) (now xs)) (now tab) (length (now work)) ⌝ }
-    requires { ⌜ (length (now sizes) ≡ length (now counts)) × SizedAs (now section2) (head .order) (cut (now counts) (now xs)) 0 (now sizes) × (length (now out) ≡ recordSize (length (now section1)) (length (now section2)) (2 + 9 * length (now counts)) (6 + 2 * length (now sizes) + total (now sizes))) × (length (now out) ≤ 1048576) ⌝ }
-    ensures { λ _. ⌜ ((streams : List (List ℕ)) → StreamsFor (now (section2 .entry)) (head .order) (cut (now (counts .entry)) (now (xs .entry))) streams → now (out .exit) ≡ recordOf (jobOf (now (section1 .entry)) (now (section2 .entry)) head (now (firsts .entry)) (now (counts .entry)) (now (ids .entry)) (now (xs .entry))) streams) × (length (now (tab .entry)) ≡ 0 → now (work .exit) ≡ now (work .entry)) ⌝ }
+    requires { ⌜ Sound (jobOf (now section1) (now section2) head (now firsts) (now counts) (now ids) (now xs)) (now tab)
+        (length (now work)) ⌝ }
+    requires { ⌜ Fitting (jobOf (now section1) (now section2) head (now firsts) (now counts) (now ids) (now xs)) (now sizes)
+        (length (now out)) ⌝ }
+    ensures { λ _. ⌜ Put
+        (jobOf (now (section1 .entry)) (now (section2 .entry)) head (now (firsts .entry)) (now (counts .entry)) (now (ids .entry))
+        (now (xs .entry))) (now (out .exit))
+        × (length (now (tab .entry)) ≡ 0 → now (work .exit) ≡ now (work .entry)) ⌝ }
 {
     let end = out.len();
     let size1 = size_for(section1.len());
@@ -409,8 +431,12 @@ fn write_found(
     work: &mut [u8],
     out: &mut [u8],
 ) -> Written
-    requires { ⌜ Sound (jobOf (now section1) (now section2) head (now firsts) (now counts) (now ids) (now xs)) (now tab) (length (now work)) ⌝ }
-    ensures { λ r. ⌜ Answered (jobOf (now (section1 .entry)) (now (section2 .entry)) head (now (firsts .entry)) (now (counts .entry)) (now (ids .entry)) (now (xs .entry))) (now (out .entry)) r (now (out .exit)) × (length (now (tab .entry)) ≡ 0 → now (work .exit) ≡ now (work .entry)) ⌝ }
+    requires { ⌜ Sound (jobOf (now section1) (now section2) head (now firsts) (now counts) (now ids) (now xs)) (now tab)
+        (length (now work)) ⌝ }
+    ensures { λ r. ⌜ Answered
+        (jobOf (now (section1 .entry)) (now (section2 .entry)) head (now (firsts .entry)) (now (counts .entry)) (now (ids .entry))
+        (now (xs .entry))) (now (out .entry)) r (now (out .exit))
+        × (length (now (tab .entry)) ≡ 0 → now (work .exit) ≡ now (work .entry)) ⌝ }
 {
     let leads = counts.len();
     let mut sizes: [u32; 32] = [0; 32];
@@ -453,8 +479,12 @@ fn write_by(
     work: &mut [u8],
     out: &mut [u8],
 ) -> Written
-    requires { ⌜ Sound (jobOf (now section1) (now section2) head (now firsts) (now counts) (now ids) (now xs)) (now tab) (length (now work)) ⌝ }
-    ensures { λ r. ⌜ Answered (jobOf (now (section1 .entry)) (now (section2 .entry)) head (now (firsts .entry)) (now (counts .entry)) (now (ids .entry)) (now (xs .entry))) (now (out .entry)) r (now (out .exit)) × (now (work .exit) ≡ clearedIf (length (now (tab .entry))) (now (work .entry))) ⌝ }
+    requires { ⌜ Sound (jobOf (now section1) (now section2) head (now firsts) (now counts) (now ids) (now xs)) (now tab)
+        (length (now work)) ⌝ }
+    ensures { λ r. ⌜ Answered
+        (jobOf (now (section1 .entry)) (now (section2 .entry)) head (now (firsts .entry)) (now (counts .entry)) (now (ids .entry))
+        (now (xs .entry))) (now (out .entry)) r (now (out .exit))
+        × (now (work .exit) ≡ clearedIf (length (now (tab .entry))) (now (work .entry))) ⌝ }
 {
     let answer = write_found(
         section1,
@@ -475,8 +505,8 @@ fn write_by(
     answer
 }
 
-// A job becomes a record at the front of the output: Section 1's data with their end mark, Section 2's with no spare byte (empty: none), and
-// of each lead its first sample's number, its count of samples and its ID; the samples of all leads stand one after another.
+// A job becomes a record at the front of the output. It is Section 1's data with their end mark, Section 2's with no spare byte (empty:
+// none), and of each lead its first sample's number, its count of samples and its ID; the samples of all leads stand one after another.
 pub fn write_record(
     section1: &[u8],
     section2: &[u8],
@@ -488,7 +518,10 @@ pub fn write_record(
     work: &mut [u8],
     out: &mut [u8],
 ) -> Written
-    ensures { λ r. ⌜ Wrote (jobOf (now (section1 .entry)) (now (section2 .entry)) head (now (firsts .entry)) (now (counts .entry)) (now (ids .entry)) (now (xs .entry))) (now (work .entry)) (now (out .entry)) r (now (work .exit)) (now (out .exit)) ⌝ }
+    ensures { λ r. ⌜ Wrote
+        (jobOf (now (section1 .entry)) (now (section2 .entry)) head (now (firsts .entry)) (now (counts .entry)) (now (ids .entry))
+        (now (xs .entry)))
+        (now (work .entry)) (now (out .entry)) r (now (work .exit)) (now (out .exit)) ⌝ }
 {
     let refusal = job_refusal(
         section1,

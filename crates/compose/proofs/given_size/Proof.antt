@@ -5,15 +5,12 @@ use Rattle.compose.proofs.Parts.{given-zero, given-sized}
 use Rattle.compose.proofs.given_size.Statement.{statement}
 use Rattle.compose.proofs.given_size.Tie as tie
 
--- src/lib.rt:271:9
 returns : tie.Need-returns
 returns c = given-zero (c .before .args .count) (c .if1 .taken)
 
--- src/lib.rt:273:5
 size-for-requires : tie.Need-size-for-requires
 size-for-requires c κs = search needs
 
--- src/lib.rt:266:1
 returns-2 : tie.Need-returns-2
 returns-2 c = c .size-for .ensures ∙ given-sized (c .before .before .args .count) (c .before .if1 .left)
 

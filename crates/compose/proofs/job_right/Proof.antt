@@ -7,7 +7,6 @@ use Rattle.compose.specs.Writing.{jobRight}
 use Rattle.compose.proofs.job_right.Statement.{statement}
 use Rattle.compose.proofs.job_right.Tie as tie
 
--- src/lib.rt:96:9
 returns : tie.Need-returns
 unfolding jobRight
 returns c =
@@ -15,7 +14,6 @@ returns c =
     let n = length (a .counts .now) in
     rw (lt-leb 1 n (c .if1 .taken))
 
--- src/lib.rt:99:9
 returns-2 : tie.Need-returns-2
 unfolding jobRight
 returns-2 c =
@@ -26,7 +24,6 @@ returns-2 c =
       lt-leb n 32 (c .if2 .taken),
     )
 
--- src/lib.rt:102:9
 returns-3 : tie.Need-returns-3
 unfolding jobRight
 returns-3 c =
@@ -38,7 +35,6 @@ returns-3 c =
       ne-eqb (length (a .firsts .now)) n (c .if3 .taken),
     )
 
--- src/lib.rt:105:9
 returns-4 : tie.Need-returns-4
 unfolding jobRight
 returns-4 c =
@@ -51,11 +47,9 @@ returns-4 c =
       ne-eqb (length (a .ids .now)) n (c .if4 .taken),
     )
 
--- src/lib.rt:107:9
 leads-asked-requires : tie.Need-leads-asked-requires
 leads-asked-requires c κs = search needs
 
--- src/lib.rt:108:9
 returns-5 : tie.Need-returns-5
 unfolding jobRight
 returns-5 c =
@@ -69,7 +63,6 @@ returns-5 c =
       broken (c .before .leads-asked .ensures) (c .if5 .taken),
     )
 
--- src/lib.rt:111:9
 returns-6 : tie.Need-returns-6
 unfolding jobRight
 returns-6 c =
@@ -84,7 +77,6 @@ returns-6 c =
       lt-leb (a .head .order) 2 (c .if6 .taken),
     )
 
--- src/lib.rt:114:9
 returns-7 : tie.Need-returns-7
 unfolding jobRight
 returns-7 c =
@@ -100,7 +92,6 @@ returns-7 c =
       eq-eqb (a .head .step) 0 (c .if7 .taken),
     )
 
--- src/lib.rt:117:9
 returns-8 : tie.Need-returns-8
 unfolding jobRight
 returns-8 c =
@@ -111,17 +102,16 @@ returns-8 c =
       le-leb n 32 (c .before .before .before .before .before .before .before .before .before .before .if2 .left),
       eq-eqb (length (a .firsts .now)) n (c .before .before .before .before .before .before .before .before .before .if3 .left),
       eq-eqb (length (a .ids .now)) n (c .before .before .before .before .before .before .before .before .if4 .left),
-      kept (c .before .before .before .before .before .before .before .leads-asked .ensures) (c .before .before .before .before .before .before .if5 .left),
+      kept (c .before .before .before .before .before .before .before .leads-asked .ensures)
+          (c .before .before .before .before .before .before .if5 .left),
       le-leb (a .head .order) 2 (c .before .before .before .before .if6 .left),
       ne-eqb (a .head .step) 0 (c .before .before .if7 .left),
       eq-eqb (a .head .interval) 0 (c .if8 .taken),
     )
 
--- src/lib.rt:119:5
 total-of-requires : tie.Need-total-of-requires
 total-of-requires c κs = search needs
 
--- src/lib.rt:92:1
 returns-9 : tie.Need-returns-9
 unfolding jobRight
 returns-9 c =
@@ -132,7 +122,8 @@ returns-9 c =
       le-leb n 32 (c .before .before .before .before .before .before .before .before .before .before .before .if2 .left),
       eq-eqb (length (a .firsts .now)) n (c .before .before .before .before .before .before .before .before .before .before .if3 .left),
       eq-eqb (length (a .ids .now)) n (c .before .before .before .before .before .before .before .before .before .if4 .left),
-      kept (c .before .before .before .before .before .before .before .before .leads-asked .ensures) (c .before .before .before .before .before .before .before .if5 .left),
+      kept (c .before .before .before .before .before .before .before .before .leads-asked .ensures)
+          (c .before .before .before .before .before .before .before .if5 .left),
       le-leb (a .head .order) 2 (c .before .before .before .before .before .if6 .left),
       ne-eqb (a .head .step) 0 (c .before .before .before .if7 .left),
       ne-eqb (a .head .interval) 0 (c .before .if8 .left),

@@ -10,44 +10,40 @@ use Rattle.compose.proofs.leads_asked.Statement.{statement}
 use Rattle.compose.proofs.leads_asked.Tie as tie
 
 abbrev Inv-loop : tie.InvT-loop
-Inv-loop firsts counts k₀ k = (k ≤ length counts) × (allIn k (length counts) (leadAsked firsts counts) ≡ allIn 0 (length counts) (leadAsked firsts counts))
+Inv-loop firsts counts k₀ k = (k ≤ length counts) ×
+    (allIn k (length counts) (leadAsked firsts counts) ≡ allIn 0 (length counts) (leadAsked firsts counts))
 
 abbrev μ-loop : tie.MeasureT-loop
 μ-loop firsts counts k₀ k = length counts - k
 
--- src/lib.rt:52:5
 loop-holds : tie.Need-loop-holds Inv-loop μ-loop
 loop-holds c = (omega arith, refl)
 
--- src/lib.rt:53:13
 lead-asked-requires : tie.Need-lead-asked-requires Inv-loop μ-loop
 lead-asked-requires c κs = (omega arith, omega arith)
 
--- src/lib.rt:54:13
 returns : tie.Need-returns Inv-loop μ-loop
 returns c =
     let a = c .before .before .before .before .before .before .args in
     let l = c .before .before .before .loop in
-    turn-broken (leadAsked (a .firsts .now) (a .counts .now)) (l .k) (length (a .counts .now)) (l .inv .1) (omega arith) (c .before .lead-asked .ensures) (c .if1 .taken)
+    turn-broken (leadAsked (a .firsts .now) (a .counts .now)) (l .k) (length (a .counts .now)) (l .inv .1) (omega arith)
+    (c .before .lead-asked .ensures) (c .if1 .taken)
 
--- src/lib.rt:56:9
 add-k : tie.Need-add-k Inv-loop μ-loop
 add-k c = omega arith
 
--- src/lib.rt:52:5
 loop-less : tie.Need-loop-less Inv-loop μ-loop
 loop-less c = omega arith
 
--- src/lib.rt:52:5
 loop-again : tie.Need-loop-again Inv-loop μ-loop
 loop-again c =
     let a = c .before .before .before .before .before .before .args in
     let l = c .before .before .before .loop in (
       omega arith,
-      turn-kept (leadAsked (a .firsts .now) (a .counts .now)) (l .k) (length (a .counts .now)) (l .inv .1) (omega arith) (c .before .lead-asked .ensures) (c .if1 .left),
+      turn-kept (leadAsked (a .firsts .now) (a .counts .now)) (l .k) (length (a .counts .now)) (l .inv .1) (omega arith)
+          (c .before .lead-asked .ensures) (c .if1 .left),
     )
 
--- src/lib.rt:47:1
 returns-2 : tie.Need-returns-2 Inv-loop μ-loop
 returns-2 c =
     let a = c .before .before .before .before .args in

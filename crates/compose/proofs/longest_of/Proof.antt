@@ -14,31 +14,24 @@ Inv-loop counts i₀ most₀ i most = (i ≤ length counts) × (most ≡ longest
 abbrev μ-loop : tie.MeasureT-loop
 μ-loop counts i₀ most₀ i most = i
 
--- src/lib.rt:81:5
 loop-holds : tie.Need-loop-holds Inv-loop μ-loop
 loop-holds c = (omega arith, longest-start (c .args .counts .now), omega arith)
 
--- src/lib.rt:82:9
 sub-i : tie.Need-sub-i Inv-loop μ-loop
 sub-i c = omega arith
 
--- src/lib.rt:83:21
 mul-count : tie.Need-mul-count Inv-loop μ-loop
 mul-count c = omega arith
 
--- src/lib.rt:83:21
 shared-slice-read-count : tie.Need-shared-slice-read-count Inv-loop μ-loop
 shared-slice-read-count c = omega arith
 
--- src/lib.rt:83:21
 cast-count : tie.Need-cast-count Inv-loop μ-loop
 cast-count c = omega (arith, c .shared-slice-known .given (c .before .before .loop .i - 1))
 
--- src/lib.rt:81:5
 loop-less : tie.Need-loop-less Inv-loop μ-loop
 loop-less c = omega arith
 
--- src/lib.rt:81:5
 loop-again : tie.Need-loop-again Inv-loop μ-loop
 loop-again c =
     let a = c .before .before .before .before .args in
@@ -48,11 +41,9 @@ loop-again c =
       omega (arith, c .before .shared-slice-known .given (l .i - 1)),
     )
 
--- src/lib.rt:81:5
 loop-less-2 : tie.Need-loop-less-2 Inv-loop μ-loop
 loop-less-2 c = omega arith
 
--- src/lib.rt:81:5
 loop-again-2 : tie.Need-loop-again-2 Inv-loop μ-loop
 loop-again-2 c =
     let a = c .before .before .before .before .args in
@@ -62,7 +53,6 @@ loop-again-2 c =
       l .inv .2,
     )
 
--- src/lib.rt:76:1
 returns : tie.Need-returns Inv-loop μ-loop
 returns c =
     let l = c .before .loop in

@@ -33,7 +33,8 @@ abbrev old : tie.After-size-for2 → List ℕ
 old c = start c .args .out .now
 
 -- Section 6 ends where the output does
-sum : (c : tie.After-size-for2) → at6 c + sizeFor (6 + 2 * length (start c .args .sizes .now) + total (start c .args .sizes .now)) ≡ length (old c)
+sum : (c : tie.After-size-for2) → at6 c + sizeFor (6 + 2 * length (start c .args .sizes .now) + total (start c .args .sizes .now))
+    ≡ length (old c)
 sum c = omega (arith, start c .pre .1 .2, c .before .before .size-for .ensures, c .before .given-size .ensures, c .size-for2 .ensures)
 
 -- ---- after each section: the output, and what was written from byte 7 on
@@ -85,7 +86,8 @@ filled2 c =
     let f = filled1 (c .before .before .before .before) in
     let within = filled-length f (omega (arith, s)) in
     filled-part (c .write-given .last .0) (at3 (sized2 c)) f (omega (arith, s))
-    (c .write-given .kept .0 ∙ mid-len (at2 (sized2 c)) (at3 (sized2 c)) (out1 (c .before .before .before .before)) (omega (arith, s, within)))
+    (c .write-given .kept .0 ∙ mid-len (at2 (sized2 c)) (at3 (sized2 c)) (out1 (c .before .before .before .before))
+    (omega (arith, s, within)))
 
 abbrev sized3 : tie.After-write-leads → tie.After-size-for2
 sized3 c = sized2 (c .before .before .before .before)
@@ -102,13 +104,15 @@ filled3 c =
     let f = filled2 (c .before .before .before .before) in
     let within = filled-length f (omega (arith, s)) in
     filled-part (c .write-leads .last .0) (at6 (sized3 c)) f (omega (arith, s))
-    (c .write-leads .kept .0 ∙ mid-len (at3 (sized3 c)) (at6 (sized3 c)) (out2 (c .before .before .before .before)) (omega (arith, s, within)))
+    (c .write-leads .kept .0 ∙ mid-len (at3 (sized3 c)) (at6 (sized3 c)) (out2 (c .before .before .before .before))
+    (omega (arith, s, within)))
 
 abbrev sized6 : tie.After-write-streams → tie.After-size-for2
 sized6 c = sized3 (c .before .before .before .before .before)
 
 abbrev out6 : tie.After-write-streams → List ℕ
-out6 c = putMid (at6 (sized6 c)) (length (old (sized6 c)) - at6 (sized6 c)) (out3 (c .before .before .before .before .before)) (c .write-streams .last .1 .1 .1 .1 .1 .1 .1 .0)
+out6 c = putMid (at6 (sized6 c)) (length (old (sized6 c)) - at6 (sized6 c)) (out3 (c .before .before .before .before .before))
+    (c .write-streams .last .1 .1 .1 .1 .1 .1 .1 .0)
 
 abbrev put6 : tie.After-write-streams → List ℕ
 put6 c = put3 (c .before .before .before .before .before) ++ c .write-streams .last .1 .1 .1 .1 .1 .1 .1 .0
@@ -119,112 +123,88 @@ filled6 c =
     let f = filled3 (c .before .before .before .before .before) in
     let within = filled-length f (omega (arith, s)) in
     filled-part (c .write-streams .last .1 .1 .1 .1 .1 .1 .1 .0) (length (old (sized6 c))) f (omega (arith, s))
-    (c .write-streams .kept .1 .1 .1 .1 .1 .1 .1 .0 ∙ mid-len (at6 (sized6 c)) (length (old (sized6 c))) (out3 (c .before .before .before .before .before)) (omega (arith, s, within)))
+    (c .write-streams .kept .1 .1 .1 .1 .1 .1 .1 .0 ∙ mid-len (at6 (sized6 c)) (length (old (sized6 c)))
+    (out3 (c .before .before .before .before .before)) (omega (arith, s, within)))
 
--- src/lib.rt:330:9
 size-for-requires : tie.Need-size-for-requires
 size-for-requires c κs = search needs
 
--- src/lib.rt:331:9
 given-size-requires : tie.Need-given-size-requires
 given-size-requires c κs =
     let d = c .before .before .before .before .before .before .before .before .before .before in
     omega (arith, given-bounds (length (d .args .section2 .now)) .0, d .pre .1 .2, d .pre .1 .3)
 
--- src/lib.rt:332:30
 mul-size-for : tie.Need-mul-size-for
 mul-size-for c = search needs
 
--- src/lib.rt:332:26
 add-size-for : tie.Need-add-size-for
 add-size-for c = search needs
 
--- src/lib.rt:332:9
 size-for-requires-2 : tie.Need-size-for-requires-2
 size-for-requires-2 c κs = search needs
 
--- src/lib.rt:333:15
 add-at2 : tie.Need-add-at2
 add-at2 c = search needs
 
--- src/lib.rt:334:15
 add-at3 : tie.Need-add-at3
 add-at3 c = search needs
 
--- src/lib.rt:335:15
 add-at6 : tie.Need-add-at6
 add-at6 c = omega (arith, sum c, start c .pre .1 .3)
 
--- src/lib.rt:336:28
 sub-write-pointers : tie.Need-sub-write-pointers
 sub-write-pointers c = search needs
 
--- src/lib.rt:336:28
 part-write-pointers-start : tie.Need-part-write-pointers-start
 part-write-pointers-start c = search needs
 
--- src/lib.rt:336:28
 part-write-pointers-end : tie.Need-part-write-pointers-end
 part-write-pointers-end c = omega (arith, sum c)
 
--- src/lib.rt:336:81
 sub-write-pointers-2 : tie.Need-sub-write-pointers-2
 sub-write-pointers-2 c = omega (arith, sum (c .before))
 
--- src/lib.rt:336:5
 write-pointers-requires : tie.Need-write-pointers-requires
 write-pointers-requires c κs =
     let s = sum (c .before) in
     (mid-len 6 142 (old (c .before)) (omega (arith, s)), omega (arith, s, start (c .before) .pre .1 .3))
 
--- src/lib.rt:337:27
 sub-write-section : tie.Need-sub-write-section
 sub-write-section c = search needs
 
--- src/lib.rt:337:27
 part-write-section-start : tie.Need-part-write-section-start
 part-write-section-start c = search needs
 
--- src/lib.rt:337:27
 part-write-section-end : tie.Need-part-write-section-end
 part-write-section-end c = search needs
 
--- src/lib.rt:337:5
 write-section-requires : tie.Need-write-section-requires
 write-section-requires c κs = search needs
 
--- src/lib.rt:338:17
 sub-write-given : tie.Need-sub-write-given
 sub-write-given c = search needs
 
--- src/lib.rt:338:17
 part-write-given-start : tie.Need-part-write-given-start
 part-write-given-start c = search needs
 
--- src/lib.rt:338:17
 part-write-given-end : tie.Need-part-write-given-end
 part-write-given-end c =
     let d = c .before .before in
     let s = sum (sized1 d) in
     omega (arith, s, filled-length (filled1 d) (omega (arith, s)))
 
--- src/lib.rt:338:5
 write-given-requires : tie.Need-write-given-requires
 write-given-requires c κs = search needs
 
--- src/lib.rt:339:25
 sub-write-leads : tie.Need-sub-write-leads
 sub-write-leads c = search needs
 
--- src/lib.rt:339:25
 part-write-leads-start : tie.Need-part-write-leads-start
 part-write-leads-start c = search needs
 
--- src/lib.rt:339:25
 part-write-leads-end : tie.Need-part-write-leads-end
 part-write-leads-end c = search needs
 
--- src/lib.rt:339:5
 write-leads-requires : tie.Need-write-leads-requires
 write-leads-requires c κs =
     let d = c .before .before .before in
@@ -235,22 +215,18 @@ write-leads-requires c κs =
     let m = mid-len (at3 z) (at6 z) (out2 d) (omega (arith, s, filled-length (filled2 d) (omega (arith, s)))) in
     ((p .1, p .2, p .0, omega (arith, m, z .size-for2 .ensures)), asked-some (a .firsts .now) (a .counts .now) (p .7))
 
--- src/lib.rt:340:65
 sub-write-streams : tie.Need-sub-write-streams
 sub-write-streams c = omega (arith, sum (sized3 (c .before .before .before)))
 
--- src/lib.rt:340:65
 part-write-streams-start : tie.Need-part-write-streams-start
 part-write-streams-start c = omega (arith, sum (sized3 (c .before .before .before)))
 
--- src/lib.rt:340:65
 part-write-streams-end : tie.Need-part-write-streams-end
 part-write-streams-end c =
     let d = c .before .before .before in
     let s = sum (sized3 d) in
     omega (arith, s, filled-length (filled3 d) (omega (arith, s)))
 
--- src/lib.rt:340:5
 write-streams-requires : tie.Need-write-streams-requires
 write-streams-requires c κs =
     let d = c .before .before .before .before in
@@ -260,25 +236,21 @@ write-streams-requires c κs =
     let m = mid-len (at6 z) (length (old z)) (out3 d) (omega (arith, s, filled-length (filled3 d) (omega (arith, s)))) in
     ((p .0 .8, p .0 .9), ((p .0 .5, p .0 .6, p .0 .4), (p .0 .0, p .0 .3, p .1 .0, p .1 .1, omega (arith, m, s))))
 
--- src/lib.rt:341:5
 seal-record-requires : tie.Need-seal-record-requires
 seal-record-requires c κs =
     let d = c .before .before .before .before .before in
     let s = sum (sized6 d) in
     omega (arith, s, filled-length (filled6 d) (omega (arith, s)))
 
--- src/lib.rt:312:1
 same-length : tie.Need-same-length
 same-length c = search needs
 
--- src/lib.rt:312:1
 same-length-2 : tie.Need-same-length-2
 same-length-2 c =
     let d = c .before .before .before .before .before .before .before .before in
     let s = sum (sized6 d) in
     c .before .before .seal-record .kept .0 ∙ filled-length (filled6 d) (omega (arith, s))
 
--- src/lib.rt:312:1
 returns : tie.Need-returns
 returns c =
     let d = c .before .before .before .before .before .before .before .before in
@@ -296,7 +268,8 @@ returns c =
     let j = jobOf (a .section1 .now) (a .section2 .now) (a .head) (a .firsts .now) (a .counts .now) (a .ids .now) (a .xs .now) in
     let n3 = length-leadsData (a .head .flags) (a .firsts .now) (a .counts .now) (a .ids .now) (p .0 .1) (p .0 .2) in (
       λ streams found.
-          let n6 = length-data (a .head .step) (a .head .interval) (a .head .order) (a .sizes .now) streams (sizes-streams (p .1 .1) found) in
+          let n6 = length-data (a .head .step) (a .head .interval) (a .head .order) (a .sizes .now) streams
+          (sizes-streams (p .1 .1) found) in
           let left : length (old z) - at6 z ≡ sizeFor (6 + 2 * length (a .sizes .now) + total (a .sizes .now)) = omega (arith, sum z) in
           record-put j streams (old z) (out6 d) (c .before .before .seal-record .last .0)
           (w0 .last .0) (w1 .last .0) (w2 .last .0) (w3 .last .0) (w6 .last .1 .1 .1 .1 .1 .1 .1 .0)

@@ -5,59 +5,63 @@ use Rattle.compose.proofs.Parts.{given-bounds}
 use Rattle.compose.proofs.record_size.Statement.{statement}
 use Rattle.compose.proofs.record_size.Tie as tie
 
--- src/lib.rt:281:9
 returns : tie.Need-returns
 returns c = search needs
 
--- src/lib.rt:284:9
 returns-2 : tie.Need-returns-2
 returns-2 c = omega (arith, given-bounds (c .before .before .args .count2) .0)
 
--- src/lib.rt:287:9
 returns-3 : tie.Need-returns-3
 returns-3 c = search needs
 
--- src/lib.rt:290:9
 returns-4 : tie.Need-returns-4
 returns-4 c = search needs
 
--- src/lib.rt:292:22
 size-for-requires : tie.Need-size-for-requires
 size-for-requires c κs = search needs
 
--- src/lib.rt:292:16
 add-size : tie.Need-add-size
 add-size c = search needs
 
--- src/lib.rt:292:41
 given-size-requires : tie.Need-given-size-requires
 given-size-requires c κs = search needs
 
--- src/lib.rt:292:16
 add-size-2 : tie.Need-add-size-2
-add-size-2 c = omega (arith, given-bounds (c .before .before .before .before .before .before .args .count2) .1, c .given-size .ensures, c .before .size-for .ensures)
+add-size-2 c = omega (
+  arith,
+  given-bounds (c .before .before .before .before .before .before .args .count2) .1,
+  c .given-size .ensures,
+  c .before .size-for .ensures,
+)
 
--- src/lib.rt:292:62
 size-for-requires-2 : tie.Need-size-for-requires-2
 size-for-requires-2 c κs = search needs
 
--- src/lib.rt:292:16
 add-size-3 : tie.Need-add-size-3
-add-size-3 c = omega (arith, given-bounds (c .before .before .before .before .before .before .before .args .count2) .1, c .before .given-size .ensures, c .before .before .size-for .ensures, c .size-for2 .ensures)
+add-size-3 c = omega (
+  arith,
+  given-bounds (c .before .before .before .before .before .before .before .args .count2) .1,
+  c .before .given-size .ensures,
+  c .before .before .size-for .ensures,
+  c .size-for2 .ensures,
+)
 
--- src/lib.rt:292:81
 size-for-requires-3 : tie.Need-size-for-requires-3
 size-for-requires-3 c κs = search needs
 
--- src/lib.rt:292:16
 add-size-4 : tie.Need-add-size-4
-add-size-4 c = omega (arith, given-bounds (c .before .before .before .before .before .before .before .before .args .count2) .1, c .before .before .given-size .ensures, c .before .before .before .size-for .ensures, c .before .size-for2 .ensures, c .size-for3 .ensures)
+add-size-4 c = omega (
+  arith,
+  given-bounds (c .before .before .before .before .before .before .before .before .args .count2) .1,
+  c .before .before .given-size .ensures,
+  c .before .before .before .size-for .ensures,
+  c .before .size-for2 .ensures,
+  c .size-for3 .ensures,
+)
 
--- src/lib.rt:294:9
 returns-5 : tie.Need-returns-5
 returns-5 c = search needs
 
--- src/lib.rt:277:1
 returns-6 : tie.Need-returns-6
 returns-6 c = search needs
 

@@ -4,7 +4,6 @@ use mathlib.Core.Path.{ap}
 use Rattle.compose.proofs.refused.Statement.{statement}
 use Rattle.compose.proofs.refused.Tie as tie
 
--- src/lib.rt:361:1
 returns : tie.Need-returns
 returns c = λ j n streams e. ap (λ (k : ℕ). record { refusal = k; bytes = 0 }) e
 

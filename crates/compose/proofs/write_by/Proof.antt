@@ -8,43 +8,38 @@ use Rattle.encode.proofs.Laws.{cleared-some}
 use Rattle.compose.proofs.write_by.Statement.{statement}
 use Rattle.compose.proofs.write_by.Tie as tie
 
--- src/lib.rt:427:9
 write-found-requires : tie.Need-write-found-requires
 write-found-requires c κs = search needs
 
--- src/lib.rt:429:9
 same-length : tie.Need-same-length
 same-length c = search needs
 
--- src/lib.rt:429:9
 same-length-2 : tie.Need-same-length-2
 same-length-2 c = search needs
 
--- src/lib.rt:429:9
 returns : tie.Need-returns
 returns c =
     let a = c .before .before .before .before .before .before .before .before .before .before .before .before .before .before .before .before .args in
     let w = c .before .before .before .before .before .write-found in
     (w .ensures .0, w .ensures .1 (c .if1 .taken) ∙ sym (ap (λ (n : ℕ). clearedIf n (a .work .now)) (c .if1 .taken)))
 
--- src/lib.rt:431:5
 clear-requires : tie.Need-clear-requires
 clear-requires c κs = search needs
 
--- src/lib.rt:412:1
 same-length-3 : tie.Need-same-length-3
 same-length-3 c = search needs
 
--- src/lib.rt:412:1
 same-length-4 : tie.Need-same-length-4
 same-length-4 c = search needs
 
--- src/lib.rt:412:1
 returns-2 : tie.Need-returns-2
 returns-2 c =
     let a = c .before .before .before .before .before .before .before .before .before .before .before .before .before .before .before .before .before .before .before .before .args in
-    let w = c .before .before .before .before .before .before .before .before .before .write-found in
-    (w .ensures .0, c .before .before .clear .ensures ∙ ap (λ (n : ℕ). replicate n 0) (w .kept .1 .1 .1 .1 .1 .1 .1 .1 .0) ∙ cleared-some (a .work .now) _ (c .before .before .before .before .if1 .left))
+    let w = c .before .before .before .before .before .before .before .before .before .write-found in (
+      w .ensures .0,
+      c .before .before .clear .ensures ∙ ap (λ (n : ℕ). replicate n 0) (w .kept .1 .1 .1 .1 .1 .1 .1 .1 .0) ∙ cleared-some
+          (a .work .now) _ (c .before .before .before .before .if1 .left),
+    )
 
 pub write-by-spec : {M : Type 1} → statement M
 write-by-spec =

@@ -6,21 +6,20 @@ use Rattle.compose.proofs.Parts.{given-none, given-some, given-sized}
 use Rattle.compose.proofs.write_given.Statement.{statement}
 use Rattle.compose.proofs.write_given.Tie as tie
 
--- src/lib.rt:305:9
 returns : tie.Need-returns
-returns c = let a = c .before .before .before .args in given-none (a .version) (a .section2 .now) (c .if1 .taken) (a .part .now) (c .before .before .before .pre)
+returns c = let a = c .before .before .before .args in given-none (a .version) (a .section2 .now) (c .if1 .taken) (a .part .now)
+    (c .before .before .before .pre)
 
--- src/lib.rt:307:5
 write-section-requires : tie.Need-write-section-requires
-write-section-requires c κs = c .before .before .before .before .pre ∙ sym (given-sized (length (c .before .before .before .before .args .section2 .now)) (c .before .if1 .left))
+write-section-requires c κs = c .before .before .before .before .pre ∙ sym
+    (given-sized (length (c .before .before .before .before .args .section2 .now)) (c .before .if1 .left))
 
--- src/lib.rt:300:1
 same-length : tie.Need-same-length
 same-length c = search needs
 
--- src/lib.rt:300:1
 returns-2 : tie.Need-returns-2
-returns-2 c = let a = c .before .before .before .before .before .before .before .args in c .before .before .write-section .ensures ∙ given-some (a .version) (a .section2 .now) (c .before .before .before .before .if1 .left)
+returns-2 c = let a = c .before .before .before .before .before .before .before .args in c .before .before .write-section .ensures
+    ∙ given-some (a .version) (a .section2 .now) (c .before .before .before .before .if1 .left)
 
 pub write-given-spec : {M : Type 1} → statement M
 write-given-spec = tie.close (tie.spec returns write-section-requires same-length returns-2)

@@ -11,39 +11,30 @@ use Rattle.compose.proofs.Parts.{section6-put, section6-size}
 use Rattle.compose.proofs.write_streams.Statement.{statement}
 use Rattle.compose.proofs.write_streams.Tie as tie
 
--- src/lib.rt:249:21
 mul-from : tie.Need-mul-from
 mul-from c = search needs
 
--- src/lib.rt:249:16
 add-from : tie.Need-add-from
 add-from c = search needs
 
--- src/lib.rt:250:22
 total-of-requires : tie.Need-total-of-requires
 total-of-requires c κs = search needs
 
--- src/lib.rt:250:15
 add-end : tie.Need-add-end
 add-end c = search needs
 
--- src/lib.rt:251:5
 write-streams-head-requires : tie.Need-write-streams-head-requires
 write-streams-head-requires c κs = search needs
 
--- src/lib.rt:252:69
 sub-put-streams : tie.Need-sub-put-streams
 sub-put-streams c = search needs
 
--- src/lib.rt:252:69
 part-put-streams-start : tie.Need-part-put-streams-start
 part-put-streams-start c = search needs
 
--- src/lib.rt:252:69
 part-put-streams-end : tie.Need-part-put-streams-end
 part-put-streams-end c = search needs
 
--- src/lib.rt:252:5
 put-streams-requires : tie.Need-put-streams-requires
 put-streams-requires c κs =
     let a = c .before .before .before .before .before .before .before .before .before .before .before .before .before .args in
@@ -54,23 +45,18 @@ put-streams-requires c κs =
     let m = mid-len from (from + t .result) (h .last .0) (omega (arith, h .kept .0, p .1 .1 .4, t .ensures .0)) in
     (p .0, (p .1 .0, (p .1 .1 .2, omega (arith, m, t .ensures .0), p .1 .1 .3)))
 
--- src/lib.rt:253:5
 put-spare-requires : tie.Need-put-spare-requires
 put-spare-requires c κs = search needs
 
--- src/lib.rt:254:5
 seal-requires : tie.Need-seal-requires
 seal-requires c κs = search needs
 
--- src/lib.rt:234:1
 same-length : tie.Need-same-length
 same-length c = search needs
 
--- src/lib.rt:234:1
 same-length-2 : tie.Need-same-length-2
 same-length-2 c = search needs
 
--- src/lib.rt:234:1
 returns : tie.Need-returns
 returns c =
     let a = c .before .before .before .before .before .before .before .before .before .before .before .before .before .before .before .before .before .before .before .before .before .before .before .before .before .before .args in
@@ -84,12 +70,16 @@ returns c =
     let zs = b .last .1 .1 .1 .1 .1 .1 .1 .0 in
     let y = putMid from (from + t .result - from) x zs in
     let z = s .last .0 in
-    let long : length y ≡ length (a .part .now) = same-len-mid from (from + t .result - from) x zs (b .kept .1 .1 .1 .1 .1 .1 .1 .0) ∙ h .kept .0 in (
+    let long : length y ≡ length (a .part .now) = same-len-mid from (from + t .result - from) x zs (b .kept .1 .1 .1 .1 .1 .1 .1 .0)
+    ∙ h .kept .0 in (
       λ streams found.
           let are = sizes-streams (p .1 .1 .3) found in
-          let even = section6-put (a .head .step) (a .head .interval) (a .head .order) (a .sizes .now) streams are (a .part .now) x y z zs from (from + t .result) refl (ap (λ (n : ℕ). from + n) (t .ensures .0)) (p .1 .1 .4) (h .ensures) refl (b .ensures .0 streams found) long (s .ensures) in
+          let even = section6-put (a .head .step) (a .head .interval) (a .head .order) (a .sizes .now) streams are
+          (a .part .now) x y z zs from (from + t .result) refl (ap (λ (n : ℕ). from + n) (t .ensures .0)) (p .1 .1 .4)
+          (h .ensures) refl (b .ensures .0 streams found) long (s .ensures) in
           let size = section6-size (a .head .step) (a .head .interval) (a .head .order) (a .sizes .now) streams are (p .1 .1 .4) in
-          c .before .before .seal .ensures .1 (streamsData (a .head .step) (a .head .interval) (a .head .order) streams) even (s .kept .0 ∙ long ∙ size),
+          c .before .before .seal .ensures .1 (streamsData (a .head .step) (a .head .interval) (a .head .order) streams) even
+          (s .kept .0 ∙ long ∙ size),
       b .ensures .1,
     )
 
