@@ -299,8 +299,10 @@ fn asked_refusal(section2: &[u8], count: usize, order: usize, work: usize) -> u8
     0
 }
 
-// Room of its own for the numbers of the code tables.
-pub fn table_room() -> [u32; 3080] {
+// Room of its own for the numbers of the code tables, all of them 0.
+pub fn table_room() -> [u32; 3080]
+    ensures { λ r. ⌜ r ≡ replicate 3080 0 ⌝ }
+{
     [0; 3080]
 }
 
