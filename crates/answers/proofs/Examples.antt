@@ -1,12 +1,15 @@
--- Every example of the table holds, by computation. Assumes nothing.
-use mathlib.Core.Path.{_≡_, refl}
+-- Every example of the table holds: by computation, but for P9, which speaks of every set of tables. Assumes nothing.
+use Prim.Native.Nat.{ℕ, _*_, _≤_}
+use mathlib.Core.Path.{_≡_, refl, sym, _∙_}
 use mathlib.Core.Bool.{true}
 use mathlib.Core.List.{List, [], _∷_}
+use mathlib.Core.Option.{none, some}
 use native.Mathlib.Omega.{arith}
 use lib.IntN.{ℤ, pos, negsuc}
 use lib.ListN.{length, take}
 use Rattle.wire.specs.Numbers.{numberAt}
-use Rattle.wire.specs.Rules.{endsBy}
+use Rattle.wire.specs.Rules.{each, allIn, endsBy}
+use Rattle.header.specs.Fields.{isField, fieldAt, stepAt}
 use Rattle.bits.specs.Bits.{highBits, lowBits, bitsIn, numberAfter, signed, begins}
 use Rattle.tables.specs.Structures.{structureAt, structuresAt, modeRight, structureRight, apart, every, prefixFree}
 use Rattle.tables.specs.Default.{codeOf, valued, ones, twoValues, defaultTable}
@@ -14,29 +17,44 @@ use Rattle.tables.specs.Section2.{isDefault, tableAt, afterTable, tablesFrom, a
 use Rattle.reading.specs.Reading.{matching, valueOf, afterMatch, readWithin, readCoded, readNext}
 use Rattle.samples.specs.Differences.{storedOf, storedFrom, differences}
 use Rattle.entries.specs.Beat.{beatSamples}
-use Rattle.tables.specs.declared.Structure.{Structure}
-use Rattle.shortest.specs.Shortest.{areBits, NoStream}
+use Rattle.shortest.specs.Shortest.{areBits}
 use Rattle.shortest.specs.InnerRule.{twos, holds, equal, serves, kindOf, wordOf}
 use Rattle.shortest.proofs.Existence.{readsIt}
 use Rattle.shortest.proofs.Certificate.{takes, outside-none}
-use Rattle.wire.specs.Rules.{each, allIn}
+use Rattle.encode.specs.declared.Coded.{Coded}
+use Rattle.encode.specs.Encoding.{tablesGiven, givenRight, foundRefusal, Encoded, refused, searched}
+use Rattle.trip.proofs.Tables.{given-right}
 use Rattle.fields.specs.Identifier.{same}
-use Rattle.answers.specs.Examples.{twoTables, namedDefault, readMany, twenty, extremes, eight, id007, id7, Examples}
+use Rattle.answers.proofs.Fewest.{asked}
+use Rattle.answers.specs.Examples.{twoTables, namedDefault, readMany, valuesP3, valuesP5, samplesP9, samplesP1, field007, field7, id007, id7, Examples}
+
+-- P9's third value has more than 16 bits
+refused-15 : {s2 work out : List ℕ} {a : Coded} {w o : List ℕ} → givenRight s2 ≡ true → 3 * length (tablesGiven s2) ≤ length work
+    → Encoded s2 samplesP9 2 work out a w o → a .refusal ≡ 15
+unfolding samplesP9 differences storedFrom storedOf foundRefusal
+refused-15 {s2 = s2} {work = work} right room (refused n e) =
+    absurd (omega (arith, sym (asked s2 3 2 (length work) right (omega arith) (omega arith) (omega arith) room) ∙ e))
+refused-15 right room (searched none e F) = refl
+refused-15 {s2 = s2} right room (searched (some bs) e F) =
+    absurd (outside-none (tablesGiven s2) (given-right s2 right) (differences 2 samplesP9) 2 (omega arith) (omega arith) bs (F .stream))
 
 pub examples : Examples
-unfolding twenty extremes allIn each areBits readsIt twos holds equal serves kindOf wordOf eight differences storedFrom storedOf beatSamples twoTables namedDefault readMany id007 id7 same tablesIn isDefault tablesFrom tableAt afterTable afterTables tableRight section2Right endsBy structuresAt structureAt numberAt every structureRight modeRight prefixFree apart begins lowBits highBits bitsIn numberAfter signed defaultTable valued codeOf ones twoValues readNext readCoded readWithin afterMatch valueOf matching tableOf
+unfolding valuesP5 samplesP9 allIn each areBits readsIt twos holds equal serves kindOf wordOf samplesP1 differences storedFrom storedOf beatSamples twoTables namedDefault readMany valuesP3 field007 field7 id007 id7 same stepAt isField fieldAt tablesIn isDefault tablesFrom tableAt afterTable afterTables tableRight section2Right endsBy structuresAt structureAt numberAt every structureRight modeRight prefixFree apart begins lowBits highBits bitsIn numberAfter signed defaultTable valued codeOf ones twoValues readNext readCoded readWithin afterMatch valueOf matching tableOf
 examples = record {
   p1 = refl;
   p2 = refl;
   p3 = refl;
+  p3-bits = takes (tablesIn namedDefault 0) valuesP3 (take 71 (bitsIn (255 ∷ 131 ∷ 191 ∷ 225 ∷ 39 ∷ 191 ∷ 247 ∷ 189 ∷ 248 ∷ []))) 71 (omega arith) refl refl refl;
   p4 = refl;
   p5-tables = refl;
   p5 = refl;
-  p6 = takes (tablesIn twoTables 0) twenty (take 87 (bitsIn (153 ∷ 94 ∷ 6 ∷ 240 ∷ 72 ∷ 215 ∷ 135 ∷ 215 ∷ 134 ∷ 166 ∷ 216 ∷ []))) 87 (omega arith) refl refl refl;
-  p7-one = takes (tablesIn twoTables 0) (pos 15 ∷ []) (take 12 (bitsIn (240 ∷ 240 ∷ []))) 12 (omega arith) refl refl refl;
-  p7-two = takes (tablesIn twoTables 0) (pos 15 ∷ pos 15 ∷ []) (take 22 (bitsIn (224 ∷ 120 ∷ 60 ∷ []))) 22 (omega arith) refl refl refl;
+  p6 = takes (tablesIn twoTables 0) valuesP5 (take 87 (bitsIn (153 ∷ 94 ∷ 6 ∷ 240 ∷ 72 ∷ 215 ∷ 135 ∷ 215 ∷ 134 ∷ 166 ∷ 216 ∷ []))) 87 (omega arith) refl refl refl;
+  p7-once = takes (tablesIn twoTables 0) (pos 15 ∷ []) (take 12 (bitsIn (240 ∷ 240 ∷ []))) 12 (omega arith) refl refl refl;
+  p7-twice = takes (tablesIn twoTables 0) (pos 15 ∷ pos 15 ∷ []) (take 22 (bitsIn (224 ∷ 120 ∷ 60 ∷ []))) 22 (omega arith) refl refl refl;
+  p7-table = refl;
   p8 = refl;
   p9-values = refl;
-  p9 = λ tables right. outside-none tables right (differences 2 extremes) 2 (omega arith) (omega arith);
+  p9 = λ s2 work out a w o right room E. refused-15 right room E;
+  p10-fields = (refl, refl, refl, refl);
   p10 = refl;
 }

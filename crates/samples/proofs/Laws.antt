@@ -7,7 +7,7 @@ use native.Mathlib.Nat.{zero-add, add-zero}
 use native.Mathlib.Omega.{arith}
 use borrow.Author.Tests.{ltb-true, ltb-false, leb-true, leb-false, lt-ltb, le-ltb, le-leb}
 use lib.Dec.{ltb, leb}
-use lib.IntN.{ℤ, pos, negsuc, _+ℤ_, _-ℤ_, +ℤ-assoc, +ℤ-comm, +ℤ-negℤ-cancel, -ℤ-+ℤ-cancel}
+use lib.IntN.{ℤ, pos, negsuc, _+ℤ_, _-ℤ_, negℤ, +ℤ-assoc, +ℤ-comm, +ℤ-negℤ-cancel, -ℤ-+ℤ-cancel}
 use lib.ListN.{length, getD}
 use Rattle.bits.specs.InnerRaised.{lower}
 use Rattle.samples.specs.Differences.{storedOf, sampleOf, storedFrom, differences}
@@ -106,6 +106,26 @@ sample-stored (suc (suc k)) place x last other = go (ltb place 2)
         ap (λ (z : ℤ). z -ℤ other) (swap (x -ℤ twice) other twice) ∙ +ℤ-negℤ-cancel (x -ℤ twice +ℤ twice) other ∙ -ℤ-+ℤ-cancel x twice
 
     go : (t : Bool) → (let stored = cond t x (x -ℤ (last +ℤ last) +ℤ other) in cond t stored (stored +ℤ (last +ℤ last) -ℤ other) ≡ x)
+    go true = refl
+    go false = there-and-back (last +ℤ last)
+
+-- and a value is what is stored for the sample that it stands for
+pub stored-sample : (order place : ℕ) (v last other : ℤ) → storedOf order place (sampleOf order place v last other) last other ≡ v
+unfolding sampleOf storedOf
+stored-sample zero place v last other = refl
+stored-sample (suc zero) place v last other = go (ltb place 1)
+  where
+    go : (t : Bool) → cond t (cond t v (v +ℤ last)) (cond t v (v +ℤ last) -ℤ last) ≡ v
+    go true = refl
+    go false = +ℤ-negℤ-cancel v last
+stored-sample (suc (suc k)) place v last other = go (ltb place 2)
+  where
+    there-and-back : (twice : ℤ) → v +ℤ twice -ℤ other -ℤ twice +ℤ other ≡ v
+    there-and-back twice =
+        ap (λ (z : ℤ). z +ℤ other) (swap (v +ℤ twice) (negℤ other) (negℤ twice))
+        ∙ -ℤ-+ℤ-cancel (v +ℤ twice -ℤ twice) other ∙ +ℤ-negℤ-cancel v twice
+
+    go : (t : Bool) → (let sample = cond t v (v +ℤ (last +ℤ last) -ℤ other) in cond t sample (sample -ℤ (last +ℤ last) +ℤ other) ≡ v)
     go true = refl
     go false = there-and-back (last +ℤ last)
 

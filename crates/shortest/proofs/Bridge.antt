@@ -150,10 +150,13 @@ matching-split cs bs c h =
     rw (length-lowBits (c .prefix) (c .code)) at (begins-split (prefixOf c) bs (matching-begins cs bs c h))
 
 module _ (n : ℕ) (tables : List (List Structure)) (right : every (tableRight n) tables ≡ true) where
-  -- a value was read: its stream goes before any stream from there on
-  record Behind (t : ℕ) (bs : List ℕ) (v : ℤ) (next : ℕ) (rest : List ℕ) : Type 0 where
+  -- a value was read by a word, behind which any bits may stand, and any stream from there on
+  pub record Behind (t : ℕ) (bs : List ℕ) (v : ℤ) (next : ℕ) (rest : List ℕ) : Type 0 where
     pub small : Small rest
-    pub onto : (vs : List ℤ) → Reads (rule tables) next rest vs → Reads (rule tables) t bs (v ∷ vs)
+    pub word : List ℕ
+    pub whole : word ++ rest ≡ bs
+    pub again : (more : List ℕ) → readCoded tables t (word ++ more) ≡ gave v next more
+    pub onto : (more : List ℕ) (vs : List ℤ) → Reads (rule tables) next more vs → Reads (rule tables) t (word ++ more) (v ∷ vs)
 
   -- a value's structure was matched
   behind-value : (t k : ℕ) (bs : List ℕ) (v : ℤ) (next : ℕ) (rest : List ℕ) → k < length (tableOf tables t) → Small bs
@@ -168,13 +171,17 @@ module _ (n : ℕ) (tables : List (List Structure)) (right : every (tableRight n
       let g = read-value-bits r (c .base) t (drop (c .prefix) bs) v next rest sd h in
       let whole : wordOf c v ++ rest ≡ bs =
       append-assoc (prefixOf c) (highBits r (twos r v)) rest ∙ ap (λ (l : List ℕ). prefixOf c ++ l) (sym (g .bits)) ∙ sym parts in
+      let kind = kind-value c v m (g .serve) in
       record {
         small = small-behind (highBits r (twos r v)) rest (rw (g .bits) at sd);
-        onto = λ vs s. rw (← whole) (value k hk (kind-value c v m (g .serve)) (rw (← g .table) at s));
+        word = wordOf c v;
+        whole = whole;
+        again = λ more. rw (← g .table) (read-word n tables right t k hk v more kind);
+        onto = λ more vs s. value k hk kind (rw (← g .table) at s);
       }
 
   -- values are read so from fewer bits than f
-  abbrev Shorter : ℕ → Type 0
+  abbrev pub Shorter : ℕ → Type 0
   Shorter f = (t : ℕ) (bs : List ℕ) (v : ℤ) (next : ℕ) (rest : List ℕ) → length bs < f → Small bs → readCoded tables t bs ≡ gave v next rest
       → Behind t bs v next rest
 
@@ -192,9 +199,14 @@ module _ (n : ℕ) (tables : List (List Structure)) (right : every (tableRight n
           let b = shorter (c .base) (drop p bs) v next rest (omega (arith, length-drop p bs, ok .some)) (small-drop p bs small)
           (sym (read-switch n tables right t bs c e m) ∙ h) in
           let word = word-prefix c v (omega (arith, ok .switch m)) in
+          let kind = kind-switch c v m in
           record {
             small = b .small;
-            onto = λ vs s. rw (parts, ← word) (switch k (c .base) hk (kind-switch c v m) (b .onto vs s));
+            word = wordOf c v ++ b .word;
+            whole = append-assoc (wordOf c v) (b .word) rest ∙ rw (b .whole, word) (sym parts);
+            again = λ more.
+                rw (append-assoc (wordOf c v) (b .word) more) (read-leap n tables right t k hk v (c .base) (b .word ++ more) kind ∙ b .again more);
+            onto = λ more vs s. rw (append-assoc (wordOf c v) (b .word) more) (switch k (c .base) hk kind (b .onto more vs s));
           }
       at k hk e (no m) =
           let c = structureOf tables t k in
@@ -207,14 +219,14 @@ module _ (n : ℕ) (tables : List (List Structure)) (right : every (tableRight n
           let w = matched (tableOf tables t) bs c e in
           at (w .place) (w .there) (rw (w .stands) e) (ℕ-discrete (structureOf tables t (w .place) .mode) 0)
 
-  behind-within : (f : ℕ) → Shorter f
+  pub behind-within : (f : ℕ) → Shorter f
   behind-within zero t bs v next rest l small h = absurd (omega arith)
   behind-within (suc f) t bs v next rest l small h = behind-step f (behind-within f) t bs v next rest l small h
 
 -- ---- right tables, one at least
 
 -- the rule reads by the tables
-next-coded : (tables : List (List Structure)) → 1 ≤ length tables → (t : ℕ) (bs : List ℕ) → readNext tables t bs ≡ readCoded tables t bs
+pub next-coded : (tables : List (List Structure)) → 1 ≤ length tables → (t : ℕ) (bs : List ℕ) → readNext tables t bs ≡ readCoded tables t bs
 unfolding readNext
 next-coded [] h t bs = absurd (omega arith)
 next-coded (cs ∷ tables) h t bs = refl
@@ -256,7 +268,7 @@ module _ (tables : List (List Structure)) (right : every (tableRight (length tab
   to-reads-small small (S.value {table = t} {next = next} {bs = bs} {rest = rest} {v = v} {vs = vs} h r) =
       let e = sym (next-coded tables there t bs) ∙ h in
       let b = behind-within (length tables) tables right (suc (length bs)) t bs v next rest (omega arith) small e in
-      b .onto vs (to-reads-small (b .small) r)
+      rw (← b .whole) (b .onto rest vs (to-reads-small (b .small) r))
 
   pub to-reads : {t : ℕ} {bs : List ℕ} {vs : List ℤ} → ReadsTo tables t bs vs → areBits bs ≡ true → Reads (rule tables) t bs vs
   to-reads {bs = bs} r bits = to-reads-small (bits-small bs bits) r

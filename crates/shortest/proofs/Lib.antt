@@ -1,6 +1,7 @@
 pub mod Laws
 pub mod Bridge
 pub mod Plain
+pub mod Cut
 pub mod Forms
 pub mod Existence
 pub mod Certificate

@@ -29,7 +29,7 @@ unfolding bitsIn bytesOf
 two-bytes x = rw (append-nil (highBits 8 (x / 256 % 256)))
 
 -- they are read to the value
-plain-read : (t : ℕ) (v : ℤ) (bs : List ℕ) → mag v < 32768 → readPlain t (bitsIn (bytesOf 2 (twos 16 v)) ++ bs) ≡ gave v t bs
+pub plain-read : (t : ℕ) (v : ℤ) (bs : List ℕ) → mag v < 32768 → readPlain t (bitsIn (bytesOf 2 (twos 16 v)) ++ bs) ≡ gave v t bs
 unfolding readPlain
 plain-read t v bs h =
     let x = twos 16 v in
@@ -54,12 +54,12 @@ bytes-back a b ha hb =
     (omega arith, rw high (mod-eq-of-lt hb))
 
 -- a value that was read has 16 bits, and they are those that were read
-record Taken (t : ℕ) (bs : List ℕ) (v : ℤ) (next : ℕ) (rest : List ℕ) : Type 0 where
+pub record Taken (t : ℕ) (bs : List ℕ) (v : ℤ) (next : ℕ) (rest : List ℕ) : Type 0 where
   pub table : t ≡ next
   pub holds : mag v < 32768
   pub bits : bs ≡ bitsIn (bytesOf 2 (twos 16 v)) ++ rest
 
-plain-taken : (t : ℕ) (bs : List ℕ) (v : ℤ) (next : ℕ) (rest : List ℕ) → Small bs → readPlain t bs ≡ gave v next rest
+pub plain-taken : (t : ℕ) (bs : List ℕ) (v : ℤ) (next : ℕ) (rest : List ℕ) → Small bs → readPlain t bs ≡ gave v next rest
     → Taken t bs v next rest
 unfolding readPlain
 plain-taken t bs v next rest small h = go (leb 16 (length bs)) refl h

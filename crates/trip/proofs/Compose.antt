@@ -15,7 +15,7 @@ use Rattle.tables.specs.Structures.{every}
 use Rattle.samples.specs.Differences.{differences}
 use Rattle.samples.specs.Trace.{fits16}
 use Rattle.packing.specs.Packing.{packed}
-use Rattle.shortest.specs.Shortest.{Stream}
+use Rattle.shortest.specs.Shortest.{Shortest}
 use Rattle.shortest.proofs.Laws.{unlike}
 use Rattle.encode.specs.Encoding.{tablesGiven}
 use Rattle.compose.specs.Writing.{Job, total, leadAsked, jobRight, cut, FoundAll, done, lead, behind, streamsOf}
@@ -147,7 +147,7 @@ found-length s2 order streams (lead {found = some bs} {founds = founds} f all) h
 -- what stands in the record for lead k
 pub record Lead (s2 : List ℕ) (order : ℕ) (xs : List ℤ) (stream : List ℕ) : Type 0 where
   pub bits : List ℕ
-  pub reads : Stream (tablesGiven s2) (differences order xs) bits
+  pub shortest : Shortest (tablesGiven s2) (differences order xs) bits
   pub bytes : stream ≡ packed bits
 
 pub found-at : (s2 : List ℕ) (order : ℕ) {xss : List (List ℤ)} {founds : List (Option (List ℕ))} (streams : List (List ℕ))
@@ -158,7 +158,7 @@ found-at s2 order streams done h k l = absurd (omega arith)
 found-at s2 order streams (lead {found = none} f all) h k l = unlike cc
 found-at s2 order streams (lead {xs = xs} {found = some bs} {founds = founds} f all) h zero l =
     let c = streams-cons bs founds streams h in
-    record { bits = bs; reads = f .stream; bytes = ap (λ (ss : List (List ℕ)). getD ss 0 []) (c .split) }
+    record { bits = bs; shortest = f; bytes = ap (λ (ss : List (List ℕ)). getD ss 0 []) (c .split) }
 found-at s2 order streams (lead {xss = xss} {found = some bs} {founds = founds} f all) h (suc k) l =
     let c = streams-cons bs founds streams h in
     rw (c .split) (found-at s2 order (c .others) all (c .rest) k (omega arith))

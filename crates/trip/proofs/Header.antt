@@ -199,7 +199,7 @@ module _ (h : List ℕ) (head : length h ≡ 16) (s : List ℕ) where
       simp (tag-moved, sole-moved, a, b, c, d)
 
   -- the rule's two parts
-  mark-kept : section1Right 0 s 0 ≡ true → endsAt 0 s (fieldsEnd 0 (fieldsFrom s 0)) ≡ true
+  pub mark-kept : section1Right 0 s 0 ≡ true → endsAt 0 s (fieldsEnd 0 (fieldsFrom s 0)) ≡ true
   unfolding section1Right
   mark-kept g = and-eq-true-iff (endsAt 0 s (fieldsEnd 0 (fieldsFrom s 0))) (tagsRight s (fieldsFrom s 0)) .0 g .0
 

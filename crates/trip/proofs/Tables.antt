@@ -15,6 +15,7 @@ use Rattle.tables.specs.Structures.{structureAt, structuresAt, every}
 use Rattle.tables.specs.Default.{defaultTable}
 use Rattle.tables.specs.Section2.{tableCount, isDefault, tableAt, afterTable, tablesFrom, afterTables, tablesIn, tableRight, section2Right}
 use Rattle.tables.proofs.Laws.{section2-right}
+use Rattle.compiled.proofs.Laws.{length-tables}
 use Rattle.tables.proofs.Default.{default-right}
 use Rattle.encode.specs.Encoding.{tablesGiven, givenRight}
 use Rattle.layout.specs.Layout.{evened}
@@ -104,19 +105,21 @@ module _ (h : List ℕ) (head : length h ≡ 16) (s : List ℕ) where
 -- ---- what the writer is given
 
 -- given tables are right
-pub given-right : (s : List ℕ) → givenRight s ≡ true → (n : ℕ) × (every (tableRight n) (tablesGiven s) ≡ true)
+pub given-right : (s : List ℕ) → givenRight s ≡ true → every (tableRight (length (tablesGiven s))) (tablesGiven s) ≡ true
 unfolding givenRight tablesGiven tablesIn every
 given-right s g = go (eqb (length s) 0) g
   where
     own : (b : Bool) → section2Right 0 s 0 ≡ true → isDefault s 0 ≡ b
-        → (n : ℕ) × (every (tableRight n) (cond b (defaultTable ∷ []) (tablesFrom s 2 (tableCount s 0))) ≡ true)
-    own true g e = (1, rw default-right)
+        → every (tableRight (length (cond b (defaultTable ∷ []) (tablesFrom s 2 (tableCount s 0)))))
+        (cond b (defaultTable ∷ []) (tablesFrom s 2 (tableCount s 0))) ≡ true
+    own true g e = rw default-right
     own false g e =
         ⊎-elim
         (λ w. absurd (let z : _≡_ {A = ℕ} 0 1 = cc in omega arith))
-        (λ w. (tableCount s 0, w .right))
+        (λ w. rw (length-tables s 2 (tableCount s 0)) (w .right))
         (section2-right 0 s 0 g)
 
-    go : (b : Bool) → b || section2Right 0 s 0 ≡ true → (n : ℕ) × (every (tableRight n) (cond b [] (tablesIn s 0)) ≡ true)
-    go true g = (0, refl)
+    go : (b : Bool) → b || section2Right 0 s 0 ≡ true
+        → every (tableRight (length (cond b [] (tablesIn s 0)))) (cond b [] (tablesIn s 0)) ≡ true
+    go true g = refl
     go false g = own (isDefault s 0) g refl

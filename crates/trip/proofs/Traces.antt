@@ -46,7 +46,7 @@ first-value {tables = tables} v vs (value {table = t} {next = next} {bs = bs} {r
 -- fewer than eight bits behind a stream are ignored
 module _ (n : ℕ) (tables : List (List Structure)) (right : every (tableRight n) tables ≡ true) (z : List ℕ) (few : length z < 8)
     (order : ℕ) where
-  rebuilt-from : (xs : List ℤ) (place : ℕ) (last other : ℤ) (t : ℕ) (bs : List ℕ) → every fits16 xs ≡ true
+  pub rebuilt-from : (xs : List ℤ) (place : ℕ) (last other : ℤ) (t : ℕ) (bs : List ℕ) → every fits16 xs ≡ true
       → ReadsTo tables t bs (storedFrom order place last other xs)
       → rebuildFrom tables order (length xs) place last other t (bs ++ z) ≡ rebuilt xs
   unfolding rebuildFrom storedFrom every afterSample

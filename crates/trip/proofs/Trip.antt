@@ -1,12 +1,13 @@
 -- The round trip (the second demand): what the writer accepts and writes, the reader gives back. Assumes nothing.
 use Prim.Native.Nat.{ℕ, _+_, _-_, _%_, _≤_, _<_}
 use mathlib.Core.Path.{_≡_, refl, ap, _∙_}
-use mathlib.Core.Bool.{Bool, true, false, not, _||_, cond}
-use mathlib.Core.List.{List, [], _++_}
+use mathlib.Core.Bool.{Bool, true, false, not, _||_, cond, and-false}
+use mathlib.Core.List.{List, [], _++_, map}
+use mathlib.Core.Logic.{_⊎_, inl, inr}
 use mathlib.Core.Option.{Option, some}
 use native.Mathlib.Omega.{arith}
-use borrow.Author.Tests.{le-leb, eq-eqb}
-use lib.Dec.{eqb}
+use borrow.Author.Tests.{le-leb, lt-leb, eq-eqb}
+use lib.Dec.{leb, eqb}
 use lib.ListN.{length, getD}
 use Rattle.header.specs.declared.Step.{Step}
 use Rattle.header.specs.declared.Step.the-variants.{Found, End}
@@ -23,15 +24,15 @@ use Rattle.entries.specs.Streams.{streamOf, section6Right}
 use Rattle.rules.specs.Rules.{tablesRight, leadsOf, hasBeat, beatRight, rhythmRight, leadsRight, stepsAgree, agrees, hasLead, leadRefusal}
 use Rattle.samples.specs.Trace.{rebuilt}
 use Rattle.leads.specs.Leads.{tablesOf, streamTrace, countAt, residual, traceAt, roomRight, readRefusal, readTrace}
-use Rattle.leads.specs.Answers.{leadAnswer}
+use Rattle.leads.specs.Answers.{leadAnswer, entryAnswer}
 use Rattle.encode.specs.Encoding.{tablesGiven, givenRight}
 use Rattle.layout.specs.Layout.{evened, sizeFor, noLetters, leadsData, streamsData, recordBytes}
 use Rattle.compose.specs.Writing.{Job, jobRight, cut, FoundAll, streamsOf, allShort, recordOf}
-use Rattle.trip.specs.GivenBack.{JobBytes, GivenBack, bytesOfStep, bytesAtPlace, samplesOf}
+use Rattle.trip.specs.GivenBack.{JobBytes, GivenBack, bytesOfStep, bytesAtPlace, behindHeader, samplesOf}
 use Rattle.trip.proofs.Traces.{stream-back}
 use Rattle.trip.proofs.Places.{Stands, stands-cut, stands-inner}
 use Rattle.trip.proofs.Sections.{headOf, section-headed, length-head, headed-data}
-use Rattle.trip.proofs.Header.{movedStep, occurring-there}
+use Rattle.trip.proofs.Header.{movedStep, fields-moved, mark-kept, occurring-there}
 use Rattle.trip.proofs.Tables.{tables-there, section2-moved, given-right}
 use Rattle.trip.proofs.Placed.{Placed, absent-present, placed-present, placed-section}
 use Rattle.trip.proofs.Opened as O
@@ -65,6 +66,13 @@ module _ (r : List ℕ) (v : ℕ) (d : List ℕ) (opened : openRefusal r ≡ 0) 
           let a : 142 + (16 + f .start) ≡ 158 + f .start = omega arith in
           let b : 158 + f .start + (16 + f .end - (16 + f .start)) ≡ 158 + f .end = omega (arith, w .order) in
           rw (a, b) (ap some (stands-cut data-there (f .start) (f .end) (w .order) (w .end)))
+
+  -- and a walk meets the fields in their order
+  walk-there : fieldsFrom (sectionOf r 1) 16 ≡ map behindHeader (fieldsFrom d 0)
+  walk-there =
+      let h = headOf 1 v noLetters d in
+      let head = length-head 1 v noLetters d refl in
+      rw (placed-section p) (fields-moved h head d (mark-kept h head d right))
 
 -- ---- leads
 
@@ -190,6 +198,14 @@ module _ (j : Job) (founds : List (Option (List ℕ))) (streams : List (List ℕ
   opened : openRefusal r ≡ 0
   opened = O.opens-written (j .version) (j .section1) (j .section2) d3 d6 small one
 
+  -- there are as many leads as the job has
+  no-lead : (place : ℕ) → (place ≡ 0) ⊎ (n < place) → leadRefusal r place ≡ 10
+  unfolding leadRefusal opens hasLead
+  no-lead place (inl e) = rw (eq-eqb (openRefusal r) 0 opened, tables-kept, leads-kept, agrees-kept, present3, present6, e)
+  no-lead place (inr l) =
+      rw (eq-eqb (openRefusal r) 0 opened, tables-kept, leads-kept, agrees-kept, present3, present6, leads-there)
+      (rw (lt-leb place n l, and-false (leb 1 place)))
+
   module _ (k : ℕ) (there : k < n) where
     lead-there : hasLead r (k + 1) ≡ true
     unfolding hasLead
@@ -198,6 +214,14 @@ module _ (j : Job) (founds : List (Option (List ℕ))) (streams : List (List ℕ
     lead-accepted : leadRefusal r (k + 1) ≡ 0
     unfolding leadRefusal opens
     lead-accepted = rw (eq-eqb (openRefusal r) 0 opened, tables-kept, leads-kept, agrees-kept, lead-there)
+
+    entry-there : (entryAnswer r (k + 1) .refusal ≡ 0) × (entryAnswer r (k + 1) .leads ≡ n)
+        × (entryAnswer r (k + 1) .last ≡ getD (j .firsts) k 0 + getD (j .counts) k 0 - 1) × (entryAnswer r (k + 1) .order ≡ j .order)
+    entry-there =
+        let e : k + 1 - 1 ≡ k = omega arith in
+        let o = S.streams-order h6 six6 (j .step) (j .interval) (j .order) streams short rooms in
+        let l = E.lead-last h3 six3 (j .flags) (j .firsts) (j .counts) (j .ids) (right .firsts) (right .ids) (right .leads) k there in
+        rw (lead-accepted, e, leads-there, section3, section6, o, l) (refl, refl, refl, refl)
 
     count-there : countAt r k ≡ getD (j .counts) k 0
     count-there =
@@ -218,7 +242,7 @@ module _ (j : Job) (founds : List (Option (List ℕ))) (streams : List (List ℕ
         let o = S.streams-order h6 six6 (j .step) (j .interval) (j .order) streams short rooms in
         let c = cut-count (j .counts) (j .samples) (right .total) k there in
         let fit = cut-fits (j .counts) (j .samples) (bytes .samples) k in
-        let back = stream-back (g .0) (tablesGiven (j .section2)) (g .1) (j .order) xs (l .bits) fit (l .reads) in
+        let back = stream-back (length (tablesGiven (j .section2))) (tablesGiven (j .section2)) g (j .order) xs (l .bits) fit (l .shortest .stream) in
         rw (stream-there, count-there, tables-same, section6, o, l .bytes, ← c) back
 
     -- with room for them
@@ -272,9 +296,12 @@ given-back j founds streams bytes asked one two found made short small =
     let placed = O.section1-placed (j .version) (j .section1) (j .section2) three six small in
     record {
       opened = accepted;
+      walked = walk-there r (j .version) (j .section1) accepted placed one;
       fields = field-shown r (j .version) (j .section1) accepted placed one;
       samples = λ k room work there enough.
           lead-read j founds streams bytes asked one two found made short small k there room work enough;
       answers = λ k room work there enough.
           lead-answered j founds streams bytes asked one two found made short small k there room work enough;
+      entries = λ k there. entry-there j founds streams bytes asked one two found made short small k there;
+      no-other = no-lead j founds streams bytes asked one two found made short small;
     }

@@ -20,7 +20,7 @@ use Rattle.trip.specs.GivenBack.{JobBytes, GivenBack}
 use Rattle.trip.proofs.Trip.{given-back}
 
 -- what a job that is not refused before the search keeps
-job-kept : (j : Job) (work : ℕ) → jobRefusal j work ≡ 0
+pub job-kept : (j : Job) (work : ℕ) → jobRefusal j work ≡ 0
     → (jobRight j ≡ true) × (section1Right 0 (j .section1) 0 ≡ true) × (givenRight (j .section2) ≡ true)
 unfolding jobRefusal
 job-kept j work h =

@@ -1,24 +1,29 @@
--- What the reader gives back of a record that the writer wrote (the second demand): the fields of Section 1 byte for byte, and every lead sample for
--- sample, with its first sample number, ID, step, interval and flags, bit 0 cleared.
+-- What the reader gives back of a record that the writer wrote (the second demand; 01, What the contracts have to settle): the fields of
+-- Section 1 in their order and byte for byte, and every lead sample for sample, with all that the job says of it, bit 0 of the flags
+-- cleared; and no other lead.
 use Prim.Native.Nat.{ℕ, _+_, _-_, _%_, _≤_, _<_}
 use mathlib.Core.Path.{_≡_}
 use mathlib.Core.Bool.{true}
-use mathlib.Core.List.{List, []}
+use mathlib.Core.List.{List, [], map}
+use mathlib.Core.Logic.{_⊎_}
 use mathlib.Core.Option.{Option, none, some}
 use lib.IntN.{ℤ}
 use lib.ListN.{length, getD}
 use Rattle.wire.specs.Numbers.{part}
+use Rattle.header.specs.declared.Field.{Field}
 use Rattle.header.specs.declared.Step.{Step}
 use Rattle.header.specs.declared.Step.the-variants.{Found, End}
 use Rattle.header.specs.Fields.{fieldsFrom, withTag, occurring}
+use Rattle.pointers.specs.Pointers.{dataAt, sectionOf}
 use Rattle.record.specs.Opening.{openRefusal}
 use Rattle.fields.specs.declared.Place.{Place}
 use Rattle.fields.specs.declared.Place.the-variants.{At, Refused}
 use Rattle.fields.specs.Lookup.{fieldPlace}
 use Rattle.tables.specs.Structures.{every}
 use Rattle.samples.specs.Trace.{rebuilt, fits16}
+use Rattle.rules.specs.Rules.{leadRefusal}
 use Rattle.leads.specs.Leads.{readTrace}
-use Rattle.leads.specs.Answers.{leadAnswer}
+use Rattle.leads.specs.Answers.{leadAnswer, entryAnswer}
 use Rattle.compose.specs.Writing.{Job, cut}
 
 -- the bytes of a field in Section 1's data alone, and those that a record shows
@@ -30,12 +35,15 @@ abbrev pub bytesAtPlace : List ℕ → Place → Option (List ℕ)
 bytesAtPlace r (At start size) = some (part r start (start + size))
 bytesAtPlace r (Refused number) = none
 
+-- a field of Section 1's data, where the section's header stands before them
+abbrev pub behindHeader : Field → Field
+behindHeader f = record { tag = f .tag; start = dataAt + f .start; end = dataAt + f .end }
+
 -- the samples of lead k, from 0
 abbrev pub samplesOf : Job → ℕ → List ℤ
 samplesOf j k = getD (cut (j .counts) (j .samples)) k []
 
--- what a job's numbers have room in: step and interval in two bytes, a sample in 16 bits. (Of its bytes nothing is asked: they are given
--- back as they are.)
+-- a job's numbers are such as can be lent: step and interval of two bytes, samples of 16 bits; of its bytes nothing is asked
 pub record JobBytes (j : Job) : Type 0 where
   pub step : j .step < 65536
   pub interval : j .interval < 65536
@@ -44,7 +52,8 @@ pub record JobBytes (j : Job) : Type 0 where
 pub record GivenBack (j : Job) (r : List ℕ) : Type 0 where
   -- the record opens
   pub opened : openRefusal r ≡ 0
-  -- every field is shown as it was given
+  -- a walk meets the same fields in the same order, and each is shown as it was given
+  pub walked : fieldsFrom (sectionOf r 1) dataAt ≡ map behindHeader (fieldsFrom (j .section1) 0)
   pub fields : (tag n : ℕ) → bytesAtPlace r (fieldPlace r tag n) ≡ bytesOfStep (j .section1) (occurring n (withTag tag (fieldsFrom (j .section1) 0)))
   -- every lead's samples, with room for them and any work space, and what is answered beside them
   pub samples : (k room work : ℕ) → k < length (j .counts) → getD (j .counts) k 0 ≤ room → readTrace r (k + 1) room work ≡ rebuilt (samplesOf j k)
@@ -59,3 +68,9 @@ pub record GivenBack (j : Job) (r : List ℕ) : Type 0 where
         first = getD (j .firsts) k 0;
         count = getD (j .counts) k 0;
       }
+  -- its entry too says what the job does
+  pub entries : (k : ℕ) → k < length (j .counts)
+      → (entryAnswer r (k + 1) .refusal ≡ 0) × (entryAnswer r (k + 1) .leads ≡ length (j .counts))
+      × (entryAnswer r (k + 1) .last ≡ getD (j .firsts) k 0 + getD (j .counts) k 0 - 1) × (entryAnswer r (k + 1) .order ≡ j .order)
+  -- at any other place there is no lead
+  pub no-other : (place : ℕ) → (place ≡ 0) ⊎ (length (j .counts) < place) → leadRefusal r place ≡ 10

@@ -1,0 +1,184 @@
+-- The first demand: a refusal is one number, given exactly when its rule says; it shows nothing and changes no lent element. Assumes nothing.
+use Prim.Native.Nat.{ℕ, zero, suc, _+_, _-_, _≤_}
+use mathlib.Core.Path.{_≡_, refl, sym, ap, _∙_}
+use mathlib.Core.Bool.{Bool, true, false, _&&_, cond}
+use mathlib.Core.List.{List, [], _∷_, _++_}
+use mathlib.Core.Logic.{_⊎_, inl, inr}
+use mathlib.Core.Option.{Option, none, some}
+use native.Mathlib.Omega.{arith}
+use lib.Dec.{eqb}
+use borrow.Author.Tests.{eq-eqb, ne-eqb}
+use lib.IntN.{ℤ, pos}
+use lib.ListN.{length, drop, replicate}
+use Rattle.wire.specs.Numbers.{part}
+use Rattle.header.specs.declared.Step.{Step}
+use Rattle.header.specs.declared.Step.the-variants.{Found, End}
+use Rattle.header.specs.Fields.{fieldsFrom, withTag, occurring}
+use Rattle.pointers.specs.Pointers.{dataAt, startOf, sectionOf, pointersFrom}
+use Rattle.record.specs.Opening.{openRefusal, opens, openCount, openNumbers}
+use Rattle.fields.specs.declared.Place.{Place}
+use Rattle.fields.specs.declared.Place.the-variants.{At, Refused}
+use Rattle.fields.specs.Lookup.{fieldPlace, placeFound, refusalOf, partBytes}
+use Rattle.fields.proofs.Laws.{place-opened, place-refused}
+use Rattle.samples.specs.Trace.{Trace, rebuilt, fault}
+use Rattle.rules.specs.Rules.{hasBeat, tablesRight, leadsRight, agrees, hasLead, leadRefusal}
+use Rattle.leads.specs.Leads.{traceAt, roomRight, readRefusal, readTrace}
+use Rattle.leads.specs.Answers.{leadOf, leadAnswer, outAfter, workAfter, entryOf, entryAnswer}
+use Rattle.encode.specs.declared.Coded.{Coded}
+use Rattle.encode.specs.Encoding as E
+use Rattle.encode.specs.Encoding.{Encoded}
+use Rattle.compose.specs.declared.Written.{Written}
+use Rattle.compose.specs.Writing as C
+use Rattle.compose.specs.Writing.{Job, Wrote}
+use Rattle.answers.specs.Demands.{firstBroken, AllKept, rowsOpened, rowsLead, rowsRead, noLead, noEntry, noStream, noRecord, Cleared, Demand1}
+use Rattle.answers.proofs.Laws.{none-broken, kept-or-broken, broken-behind}
+
+-- ---- the smallest row that is broken
+
+pub opening : (r : List ℕ) → openRefusal r ≡ firstBroken 1 (rowsOpened r)
+unfolding openRefusal firstBroken
+opening r = refl
+
+pub lead : (r : List ℕ) (place : ℕ) → leadRefusal r place ≡ firstBroken 1 (rowsLead r place)
+unfolding leadRefusal opens firstBroken
+lead r place = rw (opening r) (sym (broken-behind (rowsOpened r) (tablesRight r ∷ leadsRight r ∷ agrees r ∷ hasLead r place ∷ []) 0 7 refl))
+
+pub reading : (r : List ℕ) (place room work : ℕ) → readRefusal r place room work ≡ firstBroken 1 (rowsRead r place room work)
+unfolding readRefusal firstBroken
+reading r place room work = rw (lead r place) (sym (broken-behind (rowsLead r place) (roomRight r (place - 1) room work ∷ []) 0 11 refl))
+
+-- ---- opening, and showing a field
+
+-- where rows 1 to 6 are kept opening is not refused
+pub opened : (r : List ℕ) → AllKept (rowsOpened r) → openRefusal r ≡ 0
+opened r kept = opening r ∙ none-broken (rowsOpened r) 1 kept
+
+not-opened : (r lent : List ℕ) (n : ℕ) → openRefusal r ≡ suc n → (openCount r ≡ 0) × (openNumbers r lent ≡ lent)
+unfolding openCount opens openNumbers pointersFrom
+not-opened r lent n e =
+    let none : openCount r ≡ 0 = rw (e, ne-eqb (suc n) 0 (omega arith)) in
+    (none, rw none)
+
+field : (r : List ℕ) (tag n : ℕ) → AllKept (rowsOpened r) ⊎ (refusalOf (fieldPlace r tag n) ≡ firstBroken 1 (rowsOpened r))
+unfolding fieldPlace
+field r tag n = go (kept-or-broken (rowsOpened r) 0)
+  where
+    go : AllKept (rowsOpened r) ⊎ ((m : ℕ) × (firstBroken 1 (rowsOpened r) ≡ suc m))
+        → AllKept (rowsOpened r) ⊎ (refusalOf (fieldPlace r tag n) ≡ firstBroken 1 (rowsOpened r))
+    go (inl kept) = inl kept
+    go (inr (m, e)) =
+        inr (ap refusalOf (place-refused r _ (Refused (openRefusal r)) (λ h. omega (arith, sym h ∙ opening r ∙ e))) ∙ opening r)
+
+no-field : (r : List ℕ) (tag n : ℕ) → AllKept (rowsOpened r) → occurring n (withTag tag (fieldsFrom (sectionOf r 1) dataAt)) ≡ End
+    → refusalOf (fieldPlace r tag n) ≡ 10
+unfolding fieldPlace
+no-field r tag n kept e = ap refusalOf (place-opened r _ (Refused (openRefusal r)) (opened r kept)) ∙ rw e
+
+-- a place that is refused has no bytes
+not-shown : (r : List ℕ) (n : ℕ) (p : Place) → refusalOf p ≡ suc n → partBytes r p ≡ []
+not-shown r n (At start size) h = absurd (omega arith)
+not-shown r n (Refused number) h = refl
+
+-- ---- a lead and its entry
+
+entry-refusal : (r : List ℕ) (k n : ℕ) → entryOf r k n .refusal ≡ n
+entry-refusal r k zero = refl
+entry-refusal r k (suc n) = refl
+
+not-entered : (r : List ℕ) (k m n : ℕ) → entryOf r k m .refusal ≡ suc n → entryOf r k m ≡ noEntry (suc n)
+not-entered r k zero n h = absurd (omega arith)
+not-entered r k (suc m) n h = ap noEntry h
+
+-- where rows 1 to 11 are kept the streams decide
+pub streamed : (r : List ℕ) (place room work : ℕ) → AllKept (rowsRead r place room work) → readTrace r place room work ≡ traceAt r (place - 1)
+unfolding readTrace
+streamed r place room work kept =
+    rw (eq-eqb (readRefusal r place room work) 0 (reading r place room work ∙ none-broken (rowsRead r place room work) 1 kept))
+
+refused : (r : List ℕ) (place room work n : ℕ) → readRefusal r place room work ≡ suc n → readTrace r place room work ≡ fault (suc n)
+unfolding readTrace
+refused r place room work n e = rw (e, ne-eqb (suc n) 0 (omega arith))
+
+read : (r : List ℕ) (place room work : ℕ)
+    → AllKept (rowsRead r place room work) ⊎ (leadAnswer r place room work .refusal ≡ firstBroken 1 (rowsRead r place room work))
+read r place room work = go (kept-or-broken (rowsRead r place room work) 0)
+  where
+    go : AllKept (rowsRead r place room work) ⊎ ((m : ℕ) × (firstBroken 1 (rowsRead r place room work) ≡ suc m))
+        → AllKept (rowsRead r place room work) ⊎ (leadAnswer r place room work .refusal ≡ firstBroken 1 (rowsRead r place room work))
+    go (inl kept) = inl kept
+    go (inr (m, e)) =
+        inr (ap (λ (t : Trace). leadOf r (place - 1) t .refusal) (refused r place room work m (reading r place room work ∙ e)) ∙ sym e)
+
+not-read : (r : List ℕ) (k n : ℕ) (t : Trace) (out : List ℤ) → leadOf r k t .refusal ≡ suc n → (leadOf r k t ≡ noLead (suc n)) × (outAfter t out ≡ out)
+not-read r k n (rebuilt xs) out h = absurd (omega arith)
+not-read r k n (fault number) out h = (ap noLead h, refl)
+
+work-read : (r : List ℕ) (place room : ℕ) (work : List ℤ) → Cleared (pos 0) work (workAfter r place room work)
+unfolding workAfter
+work-read r place room work = go (eqb (readRefusal r place room (length work)) 0 && hasBeat r)
+  where
+    go : (b : Bool) → Cleared (pos 0) work (cond b (replicate (length work) (pos 0)) work)
+    go true = inr refl
+    go false = inl refl
+
+-- ---- writing
+
+work-searched : (s2 work : List ℕ) → Cleared 0 work (E.workAfter s2 work)
+unfolding E.workAfter
+work-searched s2 work = go (eqb (length s2) 0)
+  where
+    go : (b : Bool) → Cleared 0 work (cond b work (replicate (length work) 0))
+    go true = inl refl
+    go false = inr refl
+
+not-coded : (m n : ℕ) (found : Option (List ℕ)) (out : List ℕ) → E.codedAs m found .refusal ≡ suc n
+    → (E.codedAs m found ≡ noStream (suc n)) × (E.outAs m found out ≡ out)
+not-coded zero n none out h = absurd (omega arith)
+not-coded zero n (some bs) out h = absurd (omega arith)
+not-coded (suc m) n found out h = (ap noStream h, refl)
+
+not-written : (j : Job) (m n : ℕ) (streams : Option (List (List ℕ))) (out : List ℕ) → C.writtenAs j m streams .refusal ≡ suc n
+    → (C.writtenAs j m streams ≡ noRecord (suc n)) × (C.outAs j m streams out ≡ out)
+not-written j zero n none out h = absurd (omega arith)
+not-written j zero n (some streams) out h = absurd (omega arith)
+not-written j (suc m) n streams out h = (ap noRecord h, refl)
+
+encode-refused : {s2 : List ℕ} {xs : List ℤ} {order : ℕ} {work out : List ℕ} {a : Coded} {w o : List ℕ} (n : ℕ) → Encoded s2 xs order work out a w o
+    → a .refusal ≡ suc n → (a ≡ noStream (suc n)) × (o ≡ out)
+encode-refused {out = out} n (E.refused m e) h = not-coded (suc m) n none out h
+encode-refused {out = out} n (E.searched found e F) h = not-coded (E.foundRefusal (length out) found) n found out h
+
+encode-work : {s2 : List ℕ} {xs : List ℤ} {order : ℕ} {work out : List ℕ} {a : Coded} {w o : List ℕ} → Encoded s2 xs order work out a w o → Cleared 0 work w
+encode-work (E.refused n e) = inl refl
+encode-work {s2 = s2} {work = work} (E.searched found e F) = work-searched s2 work
+
+write-refused : {j : Job} {work out : List ℕ} {a : Written} {w o : List ℕ} (n : ℕ) → Wrote j work out a w o → a .refusal ≡ suc n
+    → (a ≡ noRecord (suc n)) × (o ≡ out)
+write-refused {j = j} {out = out} n (C.refused m e) h = not-written j (suc m) n none out h
+write-refused {j = j} {out = out} n (C.searched founds e F) h =
+    not-written j (C.foundRefusal j (length out) (C.streamsOf founds)) n (C.streamsOf founds) out h
+
+write-work : {j : Job} {work out : List ℕ} {a : Written} {w o : List ℕ} → Wrote j work out a w o → Cleared 0 work w
+write-work (C.refused n e) = inl refl
+write-work {j = j} {work = work} (C.searched founds e F) = work-searched (j .section2) work
+
+-- ---- the demand
+
+pub demand1 : Demand1
+demand1 = record {
+  opening = opening;
+  field = field;
+  no-field = no-field;
+  entry = λ r place. entry-refusal r (place - 1) (leadRefusal r place) ∙ lead r place;
+  reading = read;
+  streams = λ r place room work n kept e. rw (streamed r place room work kept, e);
+  not-opened = not-opened;
+  not-shown = λ r tag k n. not-shown r n (fieldPlace r tag k);
+  not-entered = λ r place n. not-entered r (place - 1) (leadRefusal r place) n;
+  not-read = λ r place n room work out. not-read r (place - 1) n (readTrace r place room work) out;
+  not-coded = λ s2 xs order work out a w o n E. encode-refused n E;
+  not-written = λ j work out a w o n W. write-refused n W;
+  work-read = work-read;
+  work-coded = λ s2 xs order work out a w o E. encode-work E;
+  work-written = λ j work out a w o W. write-work W;
+}

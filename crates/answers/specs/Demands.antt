@@ -1,0 +1,180 @@
+-- The three demands, stated in full over what the contracts of the public calls say (crates/scp/src/lib.rt): the right sides of their
+-- equations, and the relations Encoded and Wrote. That every call ends, for any bytes and any numbers, is part of what the checker
+-- accepts and needs no statement.
+use Prim.Native.Nat.{ℕ, suc, _+_, _-_, _*_, _≤_, _<_}
+use mathlib.Core.Path.{_≡_}
+use mathlib.Core.Bool.{Bool, true, false, cond}
+use mathlib.Core.List.{List, [], _∷_, _++_}
+use mathlib.Core.Logic.{_⊎_}
+use lib.IntN.{ℤ, pos}
+use lib.ListN.{length, getD, take, drop, replicate}
+use Rattle.wire.specs.Numbers.{part}
+use Rattle.header.specs.declared.Field.{Field}
+use Rattle.header.specs.declared.Step.the-variants.{Found, End}
+use Rattle.header.specs.Fields.{fieldsFrom, withTag, occurring}
+use Rattle.pointers.specs.Pointers.{dataAt, countOf, startOf, sectionOf, pointersFrom}
+use Rattle.record.specs.Rules.{lengthRight, recordCheckRight, section0Right, allPlacedRight, checksRight, fieldsRight}
+use Rattle.record.specs.Opening.{openRefusal, openCount, openNumbers}
+use Rattle.fields.specs.Identifier.{same}
+use Rattle.fields.specs.Lookup.{fieldPlace, refusalOf, partBytes}
+use Rattle.tables.specs.declared.Structure.{Structure}
+use Rattle.tables.specs.Structures.{every}
+use Rattle.samples.specs.Trace.{rebuilt, fault, fits16}
+use Rattle.traces.specs.Rebuilding.{rebuild}
+use Rattle.entries.specs.Leads.{flagsOf, firstSample, leadId}
+use Rattle.entries.specs.Streams.{stepOf, intervalOf}
+use Rattle.rules.specs.Rules.{tablesRight, leadsRight, agrees, hasLead}
+use Rattle.leads.specs.declared.Lead.{Lead}
+use Rattle.leads.specs.declared.Entry.{Entry}
+use Rattle.leads.specs.Leads.{traceAt, roomRight, readTrace}
+use Rattle.leads.specs.Answers.{leadAnswer, outAfter, workAfter, entryAnswer}
+use Rattle.packing.specs.Packing.{bytesFor, packed}
+use Rattle.shortest.specs.Shortest.{areBits}
+use Rattle.encode.specs.declared.Coded.{Coded}
+use Rattle.encode.specs.Encoding.{tablesGiven, givenRight, Encoded}
+use Rattle.compose.specs.declared.Written.{Written}
+use Rattle.compose.specs.Writing.{Job, recordOf, Wrote}
+use Rattle.trip.specs.GivenBack.{JobBytes, GivenBack, samplesOf}
+
+-- ---- the rules in a row
+
+-- the smallest number, from n on, whose rule is broken; 0 where all are kept
+unfoldable pub firstBroken : ℕ → List Bool → ℕ
+firstBroken n [] = 0
+firstBroken n (kept ∷ rules) = cond kept (firstBroken (suc n) rules) n
+
+-- all are kept
+abbrev pub AllKept : List Bool → Type 0
+AllKept rules = every (λ kept. kept) rules ≡ true
+
+-- rows 1 to 6, asked of a record that is opened; 1 to 10, of the lead at a place; and 1 to 11, with so much room and work space lent
+abbrev pub rowsOpened : List ℕ → List Bool
+rowsOpened r = lengthRight r ∷ recordCheckRight r ∷ section0Right r ∷ allPlacedRight r ∷ checksRight r ∷ fieldsRight r ∷ []
+
+abbrev pub rowsLead : List ℕ → ℕ → List Bool
+rowsLead r place = rowsOpened r ++ (tablesRight r ∷ leadsRight r ∷ agrees r ∷ hasLead r place ∷ [])
+
+abbrev pub rowsRead : List ℕ → ℕ → ℕ → ℕ → List Bool
+rowsRead r place room work = rowsLead r place ++ (roomRight r (place - 1) room work ∷ [])
+
+-- ---- answers that hold a refusal and nothing else
+
+abbrev pub noLead : ℕ → Lead
+noLead n = record { refusal = n; id = 0; flags = 0; step = 0; interval = 0; first = 0; count = 0 }
+
+abbrev pub noEntry : ℕ → Entry
+noEntry n = record { refusal = n; id = 0; flags = 0; order = 0; step = 0; interval = 0; first = 0; last = 0; leads = 0; bytes = 0 }
+
+abbrev pub noStream : ℕ → Coded
+noStream n = record { refusal = n; bytes = 0; bits = 0 }
+
+abbrev pub noRecord : ℕ → Written
+noRecord n = record { refusal = n; bytes = 0 }
+
+-- work space afterwards: untouched, or all zeros
+abbrev pub Cleared : {A : Type 0} → A → List A → List A → Type 0
+Cleared zeroes work after = (after ≡ work) ⊎ (after ≡ replicate (length work) zeroes)
+
+-- ---- the first demand: a refusal is one number, given exactly when its rule says; it shows nothing and changes no lent element
+
+pub record Demand1 : Type 0 where
+  -- the smallest row that is broken: opening; a field; a lead's entry; reading a lead, before any stream is read
+  pub opening : (r : List ℕ) → openRefusal r ≡ firstBroken 1 (rowsOpened r)
+  pub field : (r : List ℕ) (tag n : ℕ) → AllKept (rowsOpened r) ⊎ (refusalOf (fieldPlace r tag n) ≡ firstBroken 1 (rowsOpened r))
+  pub no-field : (r : List ℕ) (tag n : ℕ) → AllKept (rowsOpened r) → occurring n (withTag tag (fieldsFrom (sectionOf r 1) dataAt)) ≡ End
+      → refusalOf (fieldPlace r tag n) ≡ 10
+  pub entry : (r : List ℕ) (place : ℕ) → entryAnswer r place .refusal ≡ firstBroken 1 (rowsLead r place)
+  pub reading : (r : List ℕ) (place room work : ℕ)
+      → AllKept (rowsRead r place room work) ⊎ (leadAnswer r place room work .refusal ≡ firstBroken 1 (rowsRead r place room work))
+  -- then the first fault that the streams have
+  pub streams : (r : List ℕ) (place room work n : ℕ) → AllKept (rowsRead r place room work) → traceAt r (place - 1) ≡ fault n
+      → leadAnswer r place room work .refusal ≡ n
+  -- nothing is shown and nothing is changed
+  pub not-opened : (r lent : List ℕ) (n : ℕ) → openRefusal r ≡ suc n → (openCount r ≡ 0) × (openNumbers r lent ≡ lent)
+  pub not-shown : (r : List ℕ) (tag k n : ℕ) → refusalOf (fieldPlace r tag k) ≡ suc n → partBytes r (fieldPlace r tag k) ≡ []
+  pub not-entered : (r : List ℕ) (place n : ℕ) → entryAnswer r place .refusal ≡ suc n → entryAnswer r place ≡ noEntry (suc n)
+  pub not-read : (r : List ℕ) (place n room work : ℕ) (out : List ℤ) → leadAnswer r place room work .refusal ≡ suc n
+      → (leadAnswer r place room work ≡ noLead (suc n)) × (outAfter (readTrace r place room work) out ≡ out)
+  pub not-coded : (s2 : List ℕ) (xs : List ℤ) (order : ℕ) (work out : List ℕ) (a : Coded) (w o : List ℕ) (n : ℕ)
+      → Encoded s2 xs order work out a w o → a .refusal ≡ suc n → (a ≡ noStream (suc n)) × (o ≡ out)
+  pub not-written : (j : Job) (work out : List ℕ) (a : Written) (w o : List ℕ) (n : ℕ) → Wrote j work out a w o → a .refusal ≡ suc n
+      → (a ≡ noRecord (suc n)) × (o ≡ out)
+  -- work space is untouched, or zeros all of it
+  pub work-read : (r : List ℕ) (place room : ℕ) (work : List ℤ) → Cleared (pos 0) work (workAfter r place room work)
+  pub work-coded : (s2 : List ℕ) (xs : List ℤ) (order : ℕ) (work out : List ℕ) (a : Coded) (w o : List ℕ)
+      → Encoded s2 xs order work out a w o → Cleared 0 work w
+  pub work-written : (j : Job) (work out : List ℕ) (a : Written) (w o : List ℕ) → Wrote j work out a w o → Cleared 0 work w
+
+-- ---- the second demand: what is read is what is stored; every record that meets the rules is accepted; what is written is given back
+
+pub record Demand2 : Type 0 where
+  -- a record that keeps rows 1 to 6 is opened, and each pointer answered as stored
+  pub opened : (r lent : List ℕ) → AllKept (rowsOpened r)
+      → (openRefusal r ≡ 0) × (openCount r ≡ countOf r) × (openNumbers r lent ≡ pointersFrom r 0 (countOf r) ++ drop (3 * countOf r) lent)
+  -- and every field that stands in its Section 1 is shown, byte for byte
+  pub shown : (r : List ℕ) (tag n : ℕ) (f : Field) → AllKept (rowsOpened r)
+      → occurring n (withTag tag (fieldsFrom (sectionOf r 1) dataAt)) ≡ Found f
+      → (refusalOf (fieldPlace r tag n) ≡ 0) × (partBytes r (fieldPlace r tag n) ≡ part r (startOf r 1 + f .start) (startOf r 1 + f .end))
+  -- two identifiers are the same exactly if their bytes are equal
+  pub same-equal : (a b : List ℕ) → same a b ≡ true → a ≡ b
+  pub equal-same : (a : List ℕ) → same a a ≡ true
+  -- a lead of a record that keeps rows 1 to 11 and whose streams are rebuilt is read to exactly its samples
+  pub read : (r : List ℕ) (place room work : ℕ) (xs out : List ℤ) → AllKept (rowsRead r place room work)
+      → traceAt r (place - 1) ≡ rebuilt xs
+      → (leadAnswer r place room work ≡ record {
+        refusal = 0;
+        id = leadId (sectionOf r 3) (place - 1);
+        flags = flagsOf (sectionOf r 3);
+        step = stepOf (sectionOf r 6);
+        interval = intervalOf (sectionOf r 6);
+        first = firstSample (sectionOf r 3) (place - 1);
+        count = length xs;
+      }) × (outAfter (readTrace r place room work) out ≡ xs ++ drop (length xs) out)
+  -- what the writer accepts and writes, the reader gives back
+  pub given-back : (j : Job) (work out : List ℕ) (a : Written) (w o : List ℕ) → JobBytes j → Wrote j work out a w o → a .refusal ≡ 0
+      → GivenBack j (take (a .bytes) o)
+
+-- ---- the third demand: the writer's stream has the fewest bits of all that are read to the samples
+
+-- bits that the reader rebuilds to these samples, from table 1 on; fewer than 8 bits left over are ignored
+pub record StreamFor (tables : List (List Structure)) (order : ℕ) (xs : List ℤ) (bs : List ℕ) : Type 0 where
+  pub bits : areBits bs ≡ true
+  pub reads : rebuild tables order (length xs) bs ≡ rebuilt xs
+
+-- no other has fewer
+pub record FewestBits (tables : List (List Structure)) (order : ℕ) (xs : List ℤ) (bs : List ℕ) : Type 0 where
+  pub stream : StreamFor tables order xs bs
+  pub fewest : (other : List ℕ) → StreamFor tables order xs other → length bs ≤ length other
+
+-- what encoding comes to, and the output afterwards: four cases that exclude each other
+pub data Encodes (tables : List (List Structure)) (order : ℕ) (xs : List ℤ) (out : List ℕ) : Coded → List ℕ → Type 0 where
+  none : ((bs : List ℕ) → StreamFor tables order xs bs → ⊥) → Encodes tables order xs out (noStream 15) out
+  long : (bs : List ℕ) → FewestBits tables order xs bs → 65535 < bytesFor (length bs) → Encodes tables order xs out (noStream 16) out
+  short : (bs : List ℕ) → FewestBits tables order xs bs → bytesFor (length bs) ≤ 65535 → length out < bytesFor (length bs)
+      → Encodes tables order xs out (noStream 11) out
+  coded : (bs : List ℕ) → FewestBits tables order xs bs → bytesFor (length bs) ≤ 65535 → bytesFor (length bs) ≤ length out
+      → Encodes tables order xs out (record { refusal = 0; bytes = bytesFor (length bs); bits = length bs })
+      (packed bs ++ drop (bytesFor (length bs)) out)
+
+pub record Demand3 : Type 0 where
+  -- any accepted tables, or none; 1 to 65,536 samples of 16 bits; an order of 0 to 2; enough work space
+  pub encoding : (s2 : List ℕ) (xs : List ℤ) (order : ℕ) (work out : List ℕ) (a : Coded) (w o : List ℕ)
+      → givenRight s2 ≡ true → 1 ≤ length xs → length xs ≤ 65536 → every fits16 xs ≡ true → order ≤ 2
+      → length xs * length (tablesGiven s2) ≤ length work → Encoded s2 xs order work out a w o
+      → Encodes (tablesGiven s2) order xs out a o
+  -- and every lead of a record that is written has such a stream
+  pub writing : (j : Job) (work out : List ℕ) (a : Written) (w o : List ℕ) → JobBytes j → Wrote j work out a w o → a .refusal ≡ 0
+      → (streams : List (List ℕ)) × (take (a .bytes) o ≡ recordOf j streams)
+      × ((k : ℕ) → k < length (j .counts) → (bs : List ℕ) × FewestBits (tablesGiven (j .section2)) (j .order) (samplesOf j k) bs
+      × (getD streams k [] ≡ packed bs))
+
+-- ---- any two outcomes that a contract allows are equal
+
+pub record OneOutcome : Type 1 where
+  -- where the contract is an equation of the answer, or of a lent element afterwards
+  pub equation : {A : Type 0} (a b of : A) → a ≡ of → b ≡ of → a ≡ b
+  -- and where it is a relation
+  pub encoding : (s2 : List ℕ) (xs : List ℤ) (order : ℕ) (work out : List ℕ) (a b : Coded) (w v o p : List ℕ)
+      → Encoded s2 xs order work out a w o → Encoded s2 xs order work out b v p → (a ≡ b) × (w ≡ v) × (o ≡ p)
+  pub writing : (j : Job) (work out : List ℕ) (a b : Written) (w v o p : List ℕ) → Wrote j work out a w o → Wrote j work out b v p
+      → (a ≡ b) × (w ≡ v) × (o ≡ p)
