@@ -1,5 +1,5 @@
--- The reference beat added to a lead (01, Leads and samples): s is Section 4 with its header. Zones count from 0 here, samples from 1,
--- and a lead's samples by Section 3's numbers.
+-- The reference beat added to a lead (01, Leads and samples; row 13: 01, Refusal numbers): s is Section 4 with its header. Zones count
+-- from 0 here, samples from 1, and a lead's samples by Section 3's numbers.
 use Prim.Native.Nat.{ℕ, zero, suc, _+_, _-_}
 use mathlib.Core.Bool.{Bool, _&&_, cond}
 use mathlib.Core.List.{List, [], _∷_}
@@ -18,7 +18,8 @@ unfoldable pub beatPlaceFrom : List ℕ → ℕ → ℕ → ℕ → ℕ
 beatPlaceFrom s zero k n = 0
 beatPlaceFrom s (suc zones) k n = cond (inZone s k n) (n + fiducialOf s - zoneFiducial s k) (beatPlaceFrom s zones (k + 1) n)
 
--- zones of type 0 do not overlap, so that there is one at most; no other type adds anything
+-- the same by all zones of the section. Zones of type 0 do not overlap, so that sample n stands in
+-- one at most; no other type adds anything
 unfoldable pub beatPlace : List ℕ → ℕ → ℕ
 beatPlace s n = beatPlaceFrom s (zoneCount s) 0 n
 

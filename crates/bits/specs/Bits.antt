@@ -1,5 +1,5 @@
--- Bits (01, Code tables; P3 and P5 have streams to hold the order against). A bit is 0 or 1; a stream of bits is a list, in the order
--- in which they are read.
+-- Bits (01, Code tables; 01, Examples to hold against: P3 and P5 have streams that show the order). A bit is 0 or 1; a stream of bits
+-- is a list, in the order in which they are read.
 use Prim.Native.Nat.{ℕ, zero, suc, _+_, _-_, _*_, _/_, _%_, _^_}
 use mathlib.Core.Bool.{Bool, true, false, _&&_, cond}
 use mathlib.Core.List.{List, [], _∷_, _++_}
@@ -21,7 +21,7 @@ unfoldable pub bitsIn : List ℕ → List ℕ
 bitsIn [] = []
 bitsIn (b ∷ bs) = highBits 8 b ++ bitsIn bs
 
--- the number that bits are, the most significant first, read on after the number a
+-- the number that bits are, the most significant first, read on after the number a; `numberOf` is that of the bits alone
 unfoldable pub numberAfter : ℕ → List ℕ → ℕ
 numberAfter a [] = a
 numberAfter a (b ∷ bs) = numberAfter (a * 2 + b) bs

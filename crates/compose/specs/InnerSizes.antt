@@ -15,7 +15,7 @@ use Rattle.compose.specs.Writing.{FoundAll, streamsOf}
 abbrev pub sizeFound : Option (List ℕ) → ℕ
 sizeFound found = bytesFor (bitsFound found)
 
--- 15 where some lead has no stream, else 16 where a stream has over 65,535 bytes, else 0
+-- 15 where some lead has no stream, else 16 where a stream has over 65,535 bytes, else 0: for a lead before others, and for all
 abbrev pub numberWith : Option (List ℕ) → ℕ → ℕ
 numberWith none later = 15
 numberWith (some bs) later = cond (leb (bytesFor (length bs)) 65535) later (cond (eqb later 15) 15 16)

@@ -1,5 +1,4 @@
--- Writing a record (01, Refusal numbers 6, 7, 11 and 15 to 17 and the paragraphs under the table). A job is what the writer is given: Section 1's data
--- with their end mark, Section 2's (empty: none), and the leads, whose samples stand one after another.
+-- Writing a record (01, Numbers that bound the work; 01, Refusal numbers 6, 7, 11 and 15 to 17 and the paragraphs under the table).
 use Prim.Native.Nat.{ℕ, zero, suc, _+_, _*_}
 use mathlib.Core.Path.{_≡_}
 use mathlib.Core.Bool.{Bool, true, not, _&&_, cond}
@@ -17,6 +16,8 @@ use Rattle.encode.specs.Encoding.{tablesGiven, givenRight, Found, workAfter}
 use Rattle.compose.specs.declared.Written.{Written}
 use Rattle.compose.specs.declared.Head.{Head}
 
+-- a job is what the writer is given: Section 1's data with their end mark, Section 2's (empty: none), the numbers that stand for all
+-- leads, and the leads, whose samples stand one after another
 pub record Job : Type 0 where
   pub section1 : List ℕ
   pub section2 : List ℕ
@@ -57,7 +58,8 @@ unfoldable pub longest : List ℕ → ℕ
 longest [] = 0
 longest (c ∷ cs) = cond (leb (longest cs) c) c (longest cs)
 
--- lead k, from 0: 1 to 65,536 samples; the first is numbered at least 1, and the last within 32 bits
+-- lead k, from 0: 1 to 65,536 samples; the first has number 1 or more, and the last, whose number is first + count - 1, a number of 32
+-- bits, so that first + count is at most 2^32
 unfoldable pub leadAsked : List ℕ → List ℕ → ℕ → Bool
 leadAsked firsts counts k =
     leb 1 (getD counts k 0)
@@ -77,7 +79,7 @@ jobRight j =
     && (not (eqb (j .step) 0) && (not (eqb (j .interval) 0) && eqb (total (j .counts)) (length (j .samples)))))))))
 
 -- the first of 17, 6, 7 and 11 for work space that applies, in that order, and 0 where none does: then streams are looked for. The work
--- space has a byte for each sample of the longest lead times each table.
+-- space needed is as many bytes as the longest lead has samples, times the number of tables
 unfoldable pub jobRefusal : Job → ℕ → ℕ
 jobRefusal j work =
     unless (jobRight j) 17
@@ -98,11 +100,12 @@ pub data FoundAll (s2 : List ℕ) (order : ℕ) : List (List ℤ) → List (Opti
   lead : {xs : List ℤ} {xss : List (List ℤ)} {found : Option (List ℕ)} {founds : List (Option (List ℕ))} →
       Found (tablesGiven s2) (differences order xs) found → FoundAll s2 order xss founds → FoundAll s2 order (xs ∷ xss) (found ∷ founds)
 
--- the streams, packed into bytes; none where some lead has none
+-- a lead's stream, packed into bytes, before the packed streams of the leads after it; none where one of these has none
 abbrev pub behind : List ℕ → Option (List (List ℕ)) → Option (List (List ℕ))
 behind bs none = none
 behind bs (some streams) = some (packed bs ∷ streams)
 
+-- the streams of all leads, packed into bytes; none where some lead has none
 unfoldable pub streamsOf : List (Option (List ℕ)) → Option (List (List ℕ))
 streamsOf [] = some []
 streamsOf (none ∷ founds) = none
@@ -115,32 +118,35 @@ allShort (stream ∷ streams) = leb (length stream) 65535 && allShort streams
 
 -- ---- the record
 
+-- the record: Section 1's and Section 2's data as the job has them, Section 3's and Section 6's from its leads and these streams
 unfoldable pub recordOf : Job → List (List ℕ) → List ℕ
 recordOf j streams =
     recordBytes (j .version) (j .section1) (j .section2) (leadsData (j .flags) (j .firsts) (j .counts) (j .ids))
     (streamsData (j .step) (j .interval) (j .order) streams)
 
--- 15 where some lead has no stream; 16 where a stream has over 65,535 bytes, or the record over 1,048,576; 11 where the output has no
--- room for it
+-- 15 where some lead has no stream; 16 where a stream has over 65,535 bytes, or the record over 1,048,576; 11 where
+-- the output has no room for the record
 unfoldable pub foundRefusal : Job → ℕ → Option (List (List ℕ)) → ℕ
 foundRefusal j room none = 15
 foundRefusal j room (some streams) =
     unless (allShort streams && leb (length (recordOf j streams)) 1048576) 16
     (unless (leb (length (recordOf j streams)) room) 11 0)
 
--- a refusal is its number and nothing else; else the record's length is answered
+-- a refusal is its number and nothing else; else the record's length is answered. The case `zero none` is never
+-- met: without a stream the number is 15
 abbrev pub writtenAs : Job → ℕ → Option (List (List ℕ)) → Written
 writtenAs j zero (some streams) = record { refusal = 0; bytes = length (recordOf j streams) }
 writtenAs j zero none = record { refusal = 0; bytes = 0 }
 writtenAs j (suc n) streams = record { refusal = suc n; bytes = 0 }
 
--- the output: exactly its first bytes become the record; a refusal changes none
+-- the output: it begins with the record, and is as it was behind it; a refusal changes nothing. The case `zero none` is never
+-- met: without a stream the number is 15
 abbrev pub outAs : Job → ℕ → Option (List (List ℕ)) → List ℕ → List ℕ
 outAs j zero (some streams) out = recordOf j streams ++ drop (length (recordOf j streams)) out
 outAs j zero none out = out
 outAs j (suc n) streams out = out
 
--- what writing a job answers, and the work space and the output afterwards
+-- what writing a job answers, and the work space and the output afterwards: refused before streams are looked for, or by what is found
 pub data Wrote (j : Job) (work out : List ℕ) : Written → List ℕ → List ℕ → Type 0 where
   refused : (n : ℕ) → jobRefusal j (length work) ≡ suc n → Wrote j work out (writtenAs j (suc n) none) work out
   searched : (founds : List (Option (List ℕ))) → jobRefusal j (length work) ≡ 0 →

@@ -1,4 +1,5 @@
--- Encoding one lead (the third demand; 01, Refusal numbers 7, 11 and 15 to 17 and the paragraphs under the table).
+-- Encoding one lead (the third demand: 01, What the contracts have to settle; 01, Numbers that bound the work; 01, Refusal numbers 7,
+-- 11 and 15 to 17 and the paragraphs under the table).
 use Prim.Native.Nat.{ℕ, zero, suc, _*_}
 use mathlib.Core.Path.{_≡_}
 use mathlib.Core.Bool.{Bool, _&&_, _||_, cond}
@@ -47,23 +48,25 @@ foundRefusal room none = 15
 foundRefusal room (some bs) =
     unless (leb (bytesFor (length bs)) 65535) 16 (unless (leb (bytesFor (length bs)) room) 11 0)
 
--- a refusal is its number and nothing else; else the bytes and the bits of the stream are answered
+-- a refusal is its number and nothing else; else the bytes and the bits of the stream are answered. The case `zero none` is never
+-- met: without a stream the number is 15
 abbrev pub codedAs : ℕ → Option (List ℕ) → Coded
 codedAs zero (some bs) = record { refusal = 0; bytes = bytesFor (length bs); bits = length bs }
 codedAs zero none = record { refusal = 0; bytes = 0; bits = 0 }
 codedAs (suc n) found = record { refusal = suc n; bytes = 0; bits = 0 }
 
--- the output: exactly its first bytes become the stream, the bits left over 0; a refusal changes none
+-- the output: it begins with the stream in bytes, the bits left over 0, and is as it was behind them; a refusal changes nothing. The
+-- case `zero none` is never met: without a stream the number is 15
 abbrev pub outAs : ℕ → Option (List ℕ) → List ℕ → List ℕ
 outAs zero (some bs) out = packed bs ++ drop (bytesFor (length bs)) out
 outAs zero none out = out
 outAs (suc n) found out = out
 
--- the work space: all of it zeros once a search has begun; without Section 2 there is none
+-- the work space where nothing was refused before the search: all of it zeros; as it was without Section 2, since there is no search then
 unfoldable pub workAfter : List ℕ → List ℕ → List ℕ
 workAfter s2 work = cond (eqb (length s2) 0) work (replicate (length work) 0)
 
--- what encoding samples answers, and the work space and the output afterwards
+-- what encoding samples answers, and the work space and the output afterwards: refused before a stream is looked for, or by what is found
 pub data Encoded (s2 : List ℕ) (xs : List ℤ) (order : ℕ) (work out : List ℕ) : Coded → List ℕ → List ℕ → Type 0 where
   refused : (n : ℕ) → askedRefusal s2 (length xs) order (length work) ≡ suc n → Encoded s2 xs order work out (codedAs (suc n) none) work out
   searched : (found : Option (List ℕ)) → askedRefusal s2 (length xs) order (length work) ≡ 0 →

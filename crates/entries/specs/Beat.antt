@@ -1,4 +1,5 @@
--- Section 4 (01, Leads and samples): s is the section with its header. Zones count from 0 here, samples of the beat from 1.
+-- Section 4 (01, Leads and samples; 01, Numbers that bound the work; row 8: 01, Refusal numbers): s is the section with its header. QRS
+-- complexes and their zones count from 0 here, samples of the beat from 1.
 use Prim.Native.Nat.{ℕ, zero, suc, _+_, _*_, _/_}
 use mathlib.Core.Bool.{Bool, _&&_, cond}
 use mathlib.Core.List.{List}
@@ -7,7 +8,7 @@ use lib.ListN.{length}
 use Rattle.wire.specs.Numbers.{numberAt}
 use Rattle.wire.specs.Rules.{allIn}
 
--- beat length in ms (2), fiducial (2), number of QRS (2)
+-- the beat's length in ms, its fiducial F, and how many QRS complexes there are, in two bytes each
 abbrev pub beatLength : List ℕ → ℕ
 beatLength s = numberAt 2 s 16
 
@@ -17,7 +18,7 @@ fiducialOf s = numberAt 2 s 18
 abbrev pub zoneCount : List ℕ → ℕ
 zoneCount s = numberAt 2 s 20
 
--- then 14 bytes each: type (2), SB (4), fiducial C (4), SE (4); each such entry is called a zone here, of whatever type
+-- behind these, 14 bytes for each QRS: two for its type, then four each for SB, for its fiducial C and for SE. From SB to SE is its zone
 abbrev pub zoneType : List ℕ → ℕ → ℕ
 zoneType s k = numberAt 2 s (22 + 14 * k)
 
@@ -30,17 +31,18 @@ zoneFiducial s k = numberAt 4 s (28 + 14 * k)
 abbrev pub zoneEnd : List ℕ → ℕ → ℕ
 zoneEnd s k = numberAt 4 s (32 + 14 * k)
 
--- the beat has N = floor(1000 L / interval) samples
+-- N, the number of samples that a beat of so many ms has at an interval of so many microseconds, rounded down
 unfoldable pub beatSamples : ℕ → ℕ → ℕ
 beatSamples ms interval = 1000 * ms / interval
 
--- SE of the nearest zone of type 0 before the k-th, which is the last of all where those keep their rule; 0 where there is none
+-- SE of the nearest zone of type 0 before the k-th, which is the largest SE so far where those zones
+-- keep their rule; 0 where there is none
 unfoldable pub lastBefore : List ℕ → ℕ → ℕ
 lastBefore s zero = 0
 lastBefore s (suc k) = cond (eqb (zoneType s k) 0) (zoneEnd s k) (lastBefore s k)
 
--- for type 0: 1 ≤ SB ≤ SE, behind every zone of type 0 before it, and n - C + F within 1 to N for each n of the zone. For other
--- types SB and SE are 0.
+-- a zone of type 0 starts at sample 1 or later and does not end before it starts; it starts behind the nearest zone of type 0 before
+-- it; and for every n in it the beat has a sample n - C + F. Of any other type, SB and SE are both 0
 unfoldable pub zoneRight : ℕ → List ℕ → ℕ → Bool
 zoneRight samples s k =
     cond (eqb (zoneType s k) 0)
@@ -51,7 +53,8 @@ zoneRight samples s k =
     && leb (zoneEnd s k + fiducialOf s) (zoneFiducial s k + samples)))))
     (eqb (zoneBegin s k) 0 && eqb (zoneEnd s k) 0)
 
--- 1 to 65,536 samples, the fiducial among them, at most 1,024 QRS, all of them there, each by its rule; what follows is not read
+-- the beat has 1 to 65,536 samples, F is one of them, and there are at most 1,024 QRS, all of them in the section, each by its rule.
+-- Whatever stands behind them is not judged
 unfoldable pub section4Right : ℕ → List ℕ → Bool
 section4Right samples s =
     leb 1 samples

@@ -1,4 +1,4 @@
--- Two identifiers are the same exactly if their bytes are equal (01, Header fields and the patient identifier).
+-- When two patient identifiers are one and the same (01, Header fields and the patient identifier): byte for byte, nothing left out.
 use Prim.Native.Nat.{ℕ}
 use mathlib.Core.Bool.{Bool, true, false, _&&_}
 use mathlib.Core.List.{List, [], _∷_}

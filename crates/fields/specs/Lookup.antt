@@ -12,12 +12,13 @@ use Rattle.record.specs.Opening.{openRefusal, opens}
 use Rattle.fields.specs.declared.Place.{Place}
 use Rattle.fields.specs.declared.Place.the-variants.{At, Refused}
 
--- a field found in Section 1 lies in the record as far on as the section starts; 10 where there is no such field
+-- where a field found in Section 1 lies in the record: the section's start is added to the field's own; 10 where there is no such field
 abbrev pub placeFound : ℕ → Step → Place
 placeFound start (Found f) = At (start + f .start) (sizeOf f)
 placeFound start End = Refused 10
 
--- where the field with a tag and occurrence, from 1, stands in the record; or the smallest of 1 to 6 and 10 that applies
+-- where an occurrence of a tag, counted from 1, stands in the record; a record that does not open is refused as opening is, and
+-- else 10 says that there is no such field
 unfoldable pub fieldPlace : List ℕ → ℕ → ℕ → Place
 fieldPlace r tag occurrence =
     cond (opens r)

@@ -43,14 +43,14 @@ hasSize n f = eqb (sizeOf f) n
 abbrev pub anyField : Field → Bool
 anyField f = true
 
--- tags 2, 14, 25 and 26 stand once; 2 is an identifier, 25 has 4 bytes, 26 has 3
+-- four tags must stand, each in one field only: 2, the identifier; 14, of any size; 25, of four bytes; 26, of three
 unfoldable pub tagsRight : List ℕ → List Field → Bool
 tagsRight s fs =
     keeps (isIdentifier s) (sole (withTag 2 fs))
     && (keeps anyField (sole (withTag 14 fs))
     && (keeps (hasSize 4) (sole (withTag 25 fs)) && keeps (hasSize 3) (sole (withTag 26 fs))))
 
--- 6: the fields stand up to the end mark, with at most `spare` bytes behind it (1 in a record, 0 for the writer), and the tags that
--- must stand keep their rules
+-- 6: the fields stand up to the end mark, with at most `spare` bytes behind it (1 in a record, 0 for the writer), and the
+-- tags that must stand keep their rules
 unfoldable pub section1Right : ℕ → List ℕ → ℕ → Bool
 section1Right spare s at = endsAt spare s (fieldsEnd at (fieldsFrom s at)) && tagsRight s (fieldsFrom s at)

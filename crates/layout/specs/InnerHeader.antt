@@ -3,6 +3,6 @@ use Prim.Native.Nat.{ℕ}
 use mathlib.Core.List.{List, _∷_, _++_}
 use Rattle.wire.specs.Numbers.{bytesOf}
 
--- ID (2), length (4), the version byte in both places, reserved (6), then the data
+-- the ID in two bytes, the length in four, the version byte twice, the reserved bytes, then the data
 abbrev pub headed : ℕ → ℕ → ℕ → List ℕ → List ℕ → List ℕ
 headed id size version reserved rest = bytesOf 2 id ++ (bytesOf 4 size ++ (version ∷ (version ∷ (reserved ++ rest))))

@@ -3,6 +3,6 @@ use Prim.Native.Nat.{ℕ, _+_, _-_}
 use mathlib.Core.List.{List, [], _∷_, _++_}
 use Rattle.wire.specs.Numbers.{bytesOf}
 
--- first sample (4), last sample (4), ID (1)
+-- the first sample's number in four bytes, the last one's in four, then the ID
 unfoldable pub entryBytes : ℕ → ℕ → ℕ → List ℕ
 entryBytes first count id = bytesOf 4 first ++ (bytesOf 4 (first + count - 1) ++ (id ∷ []))

@@ -1,5 +1,6 @@
--- The bytes of a record as the writer writes it (01, The record; 01, Leads and samples; 01, Refusal numbers, the paragraphs under the table):
--- twelve pointers, present sections in rising ID without gaps, one version byte in both places, 0 in reserved and spare bytes.
+-- The bytes of a record as the writer writes it (01, The record; 01, Leads and samples; 01, Refusal numbers, the paragraphs under the
+-- table): Section 0 with twelve pointers, then Sections 1, 2, 3 and 6, each behind the one before it; the version byte stands in both
+-- places of every header, and a byte that is reserved or spare is 0, but for Section 0's letters.
 use Prim.Native.Nat.{ℕ, zero, suc, _+_, _-_, _%_}
 use mathlib.Core.Bool.{cond}
 use mathlib.Core.List.{List, [], _∷_, _++_}
@@ -14,7 +15,7 @@ use Rattle.wire.specs.Check.{crcOf}
 unfoldable pub evened : List ℕ → List ℕ
 evened contents = contents ++ replicate (length contents % 2) 0
 
--- a section's length, with its header
+-- the length of a section with so many bytes of data: the header's 16, the data, and the spare byte where there is one
 abbrev pub sizeFor : ℕ → ℕ
 sizeFor count = 16 + count + count % 2
 
@@ -22,12 +23,12 @@ sizeFor count = 16 + count + count % 2
 unfoldable pub checked : List ℕ → List ℕ
 checked body = bytesOf 2 (crcOf body) ++ body
 
--- check (2), ID (2), length (4), section version (1), protocol version (1), reserved (6), then the data
+-- a section: its check, its ID in two bytes, its length in four, the version byte twice, six reserved bytes, then the data made even
 unfoldable pub sectionBytes : ℕ → ℕ → List ℕ → List ℕ → List ℕ
 sectionBytes id version reserved contents =
     checked (bytesOf 2 id ++ (bytesOf 4 (sizeFor (length contents)) ++ (version ∷ (version ∷ (reserved ++ evened contents)))))
 
--- six bytes of 0; in Section 0 the letters SCPECG
+-- the six reserved bytes of a header: 0, but in Section 0 the letters SCPECG
 abbrev pub noLetters : List ℕ
 noLetters = 0 ∷ (0 ∷ (0 ∷ (0 ∷ (0 ∷ (0 ∷ [])))))
 
@@ -36,7 +37,7 @@ letters = 83 ∷ (67 ∷ (80 ∷ (69 ∷ (67 ∷ (71 ∷ [])))))
 
 -- ---- the data of Sections 3 and 6
 
--- a lead's first sample (4), last sample (4) and ID (1)
+-- nine bytes for each lead: the number of its first sample (4), that of its last (4), and its ID (1)
 unfoldable pub entriesOf : List ℕ → List ℕ → List ℕ → List ℕ
 entriesOf [] counts ids = []
 entriesOf (first ∷ firsts) [] ids = []
@@ -44,11 +45,11 @@ entriesOf (first ∷ firsts) (count ∷ counts) [] = []
 entriesOf (first ∷ firsts) (count ∷ counts) (id ∷ ids) =
     bytesOf 4 first ++ (bytesOf 4 (first + count - 1) ++ (id ∷ entriesOf firsts counts ids))
 
--- the number of leads, the flags with bit 0 cleared, and the leads' entries
+-- Section 3's data: the number of leads, the flags with bit 0 cleared, and the leads' entries
 unfoldable pub leadsData : ℕ → List ℕ → List ℕ → List ℕ → List ℕ
 leadsData flags firsts counts ids = length counts ∷ ((flags - flags % 2) ∷ entriesOf firsts counts ids)
 
--- the byte counts of the leads' streams, and the streams one after another
+-- how many bytes each lead's stream has, in two bytes; and the streams one after another
 unfoldable pub countsOf : List (List ℕ) → List ℕ
 countsOf [] = []
 countsOf (stream ∷ streams) = bytesOf 2 (length stream) ++ countsOf streams
@@ -57,14 +58,14 @@ unfoldable pub joined : List (List ℕ) → List ℕ
 joined [] = []
 joined (stream ∷ streams) = stream ++ joined streams
 
--- step (2), interval (2), difference order (1), bimodal, which is 0 (1), byte counts, streams
+-- Section 6's data: step (2), interval (2), difference order (1), bimodal, which is 0 (1), byte counts, streams
 unfoldable pub streamsData : ℕ → ℕ → ℕ → List (List ℕ) → List ℕ
 streamsData step interval order streams =
     bytesOf 2 step ++ (bytesOf 2 interval ++ (order ∷ (0 ∷ (countsOf streams ++ joined streams))))
 
 -- ---- the record
 
--- a pointer: ID (2), length (4), index of the first byte (4)
+-- a pointer in ten bytes: the ID in two, the length in four, the index in four
 unfoldable pub pointerBytes : ℕ → ℕ → ℕ → List ℕ
 pointerBytes id size index = bytesOf 2 id ++ (bytesOf 4 size ++ bytesOf 4 index)
 
@@ -85,7 +86,7 @@ pointersData size1 size2 size3 size6 =
     ++ (pointerBytes 6 size6 (143 + size1 + size2 + size3)
     ++ (absent 7 ++ (absent 8 ++ (absent 9 ++ (absent 10 ++ absent 11))))))))))
 
--- a Section 2 that is not given has no bytes
+-- the length and the bytes of Section 2: none where no data are given
 abbrev pub givenSize : ℕ → ℕ
 givenSize count = cond (eqb count 0) 0 (sizeFor count)
 
@@ -96,7 +97,7 @@ givenSection version contents = cond (eqb (length contents) 0) [] (sectionBytes 
 abbrev pub recordSize : ℕ → ℕ → ℕ → ℕ → ℕ
 recordSize count1 count2 count3 count6 = 142 + sizeFor count1 + givenSize count2 + sizeFor count3 + sizeFor count6
 
--- check (2), record size (4), Section 0 and the others
+-- the record's check, its size in four bytes, then Section 0 and the sections that are there
 unfoldable pub recordBytes : ℕ → List ℕ → List ℕ → List ℕ → List ℕ → List ℕ
 recordBytes version data1 data2 data3 data6 =
     checked

@@ -1,5 +1,5 @@
--- What reading a lead and asking for its entry answer, and what stands in the lent room afterwards (01, Refusal numbers, the paragraphs
--- under the table).
+-- What reading a lead answers, and what stands in the lent room afterwards (01, Refusal numbers, the paragraphs under the table); and
+-- what asking for a lead's entry answers. That call is ours: 01 has no such call, and the rows that refuse it are 01's, 1 to 10.
 use Prim.Native.Nat.{ℕ, zero, suc, _-_}
 use mathlib.Core.Bool.{_&&_, cond}
 use mathlib.Core.List.{List, _++_}
@@ -15,7 +15,8 @@ use Rattle.leads.specs.Leads.{readRefusal, readTrace}
 use Rattle.leads.specs.declared.Lead.{Lead}
 use Rattle.leads.specs.declared.Entry.{Entry}
 
--- count, first sample number, lead ID, flags as stored, step and interval; a refusal is its number and nothing else
+-- the count, the first sample's number, the ID, the flags as stored, and Section 6's step and interval; a
+-- refusal is its number and nothing else
 abbrev pub leadOf : List ℕ → ℕ → Trace → Lead
 leadOf r k (rebuilt xs) = record {
   refusal = 0;
@@ -32,7 +33,7 @@ leadOf r k (fault number) = record { refusal = number; id = 0; flags = 0; step =
 abbrev pub leadAnswer : List ℕ → ℕ → ℕ → ℕ → Lead
 leadAnswer r place room work = leadOf r (place - 1) (readTrace r place room work)
 
--- the output: exactly the first so many elements are the samples; a refusal changes none
+-- the output: it begins with the samples, and is as it was behind them; a refusal changes nothing
 abbrev pub outAfter : Trace → List ℤ → List ℤ
 outAfter (rebuilt xs) out = xs ++ drop (length xs) out
 outAfter (fault number) out = out

@@ -32,7 +32,8 @@ countAt r k = sampleCount (sectionOf r 3) k
 unfoldable pub residual : List ℕ → ℕ → Trace
 residual r k = streamTrace r 6 (countAt r k) k
 
--- where a beat was subtracted its stream is read, then the residual, then sums are made
+-- with no beat subtracted, the residual alone; else the beat is read first, the residual after it, and
+-- only then is the one added to the other
 unfoldable pub traceAt : List ℕ → ℕ → Trace
 traceAt r k =
     cond (hasBeat r)

@@ -1,4 +1,4 @@
--- Streams compared (01, Refusal numbers, the tie in the paragraphs under the table): which of two is smaller at the first differing bit.
+-- Streams compared (01, Refusal numbers, the tie in the paragraphs under the table): which of two comes first.
 use Prim.Native.Nat.{ℕ, _<_}
 use mathlib.Core.List.{List, _∷_}
 

@@ -95,6 +95,7 @@ Closed G cap next cur v t = (k : ℕ) → k < G .count t → cur t ≤ cost G ca
 abbrev pub MetBy : {A : Type 0} → Codes A → ℕ → List A → ℕ → ℕ → Type 0
 MetBy G cap vs t r = r ≤ cap → (s : List ℕ) × Reads G t s vs × (min cap (length s) ≤ r)
 
+-- the same, r being what the costs c have for table t
 abbrev pub Met : {A : Type 0} → Codes A → ℕ → List A → (ℕ → ℕ) → ℕ → Type 0
 Met G cap vs c t = MetBy G cap vs t (c t)
 

@@ -1,5 +1,5 @@
--- Section 0's pointers (01, The record). r is the list of a record's bytes; places count from 0, so that what 01 calls byte 7 is at
--- place 6; an index is a number as stored, and counts from 1.
+-- Section 0's pointers (01, The record; 01, Numbers that bound the work). r is the list of a record's bytes; places count from 0, so
+-- that what 01 calls byte 7 is at place 6; an index is a number as stored, and counts from 1.
 use Prim.Native.Nat.{ℕ, zero, suc, _+_, _*_, _-_, _/_, min}
 use mathlib.Core.Bool.{Bool, not}
 use mathlib.Core.List.{List, [], _∷_}
@@ -14,12 +14,12 @@ section0Length r = numberAt 4 r 10
 abbrev pub dataAt : ℕ
 dataAt = 16
 
--- how many pointers of 10 bytes that length holds behind the header. Never over 64: a longer Section 0 is then not 16 + 10 times
--- this, and breaks its rule
+-- how many pointers of 10 bytes that length holds behind the header. Never over 64, the most that there may be: a longer Section 0 is
+-- then not 16 + 10 times this, and breaks its rule
 unfoldable pub countOf : List ℕ → ℕ
 countOf r = min 64 ((section0Length r - 16) / 10)
 
--- pointer k, counted from 0: ID (2), length (4), index of the first byte (4)
+-- pointer k, counted from 0, in its ten bytes: the ID in two, the length in four, the index of the section's first byte in four
 abbrev pub idOf : List ℕ → ℕ → ℕ
 idOf r k = numberAt 2 r (22 + 10 * k)
 
@@ -29,7 +29,7 @@ lengthOf r k = numberAt 4 r (24 + 10 * k)
 abbrev pub indexOf : List ℕ → ℕ → ℕ
 indexOf r k = numberAt 4 r (28 + 10 * k)
 
--- length 0 means absent, whatever the index
+-- a pointer of length 0 says that its section is not there, and its index then says nothing
 abbrev pub present : List ℕ → ℕ → Bool
 present r k = not (eqb (lengthOf r k) 0)
 

@@ -1,5 +1,6 @@
--- The reading rule (01, Code tables): match a code in the current table; a value ends the step, a switch carries on with the next
--- code in the new table. `tables` are those that Section 2's data mean; the empty list stands for a record without Section 2.
+-- The reading rule (01, Code tables). The bits begin with a code of the table that is current: either it gives a value, or it switches
+-- to another table, and the bits behind it are read by that one in the same way. `tables` are those that Section 2's data mean; the
+-- empty list stands for a record without Section 2.
 use Prim.Native.Nat.{ℕ, zero, suc, _+_, _*_}
 use mathlib.Core.Bool.{cond}
 use mathlib.Core.List.{List, [], _∷_}
@@ -12,8 +13,8 @@ use Rattle.tables.specs.declared.Structure.{Structure}
 use Rattle.tables.specs.Structures.{prefixOf, remainderOf}
 use Rattle.tables.specs.Section2.{tableOf}
 
--- what reading a value comes to: the value, the table that is current after it, and the bits that are left; or no value, since
--- the next code matches nothing or runs out
+-- what reading a value comes to: the value, the table that is current after it, and the bits that are left; or no value, since the bits
+-- begin with no code, or end within one
 pub data Next : Type 0 where
   gave : ℤ → ℕ → List ℕ → Next
   stuck : Next
@@ -23,14 +24,15 @@ unfoldable pub matching : List Structure → List ℕ → Option Structure
 matching [] bs = none
 matching (c ∷ cs) bs = cond (begins (prefixOf c) bs) (some c) (matching cs bs)
 
--- a value, from the bits behind its prefix: the base value if the two lengths are equal; else so many bits, the most significant
--- first, are the value itself in two's complement
+-- the value behind a prefix: without a remainder it is the base value; else it is what the remainder's bits are in two's complement,
+-- highest bit first, whatever the base value is
 unfoldable pub valueOf : ℕ → ℕ → ℕ → List ℕ → Next
 valueOf zero base table bs = gave (signed 16 base) table bs
 valueOf (suc r) base table bs =
     cond (leb (suc r) (length bs)) (gave (signed (suc r) (numberOf (take (suc r) bs))) table (drop (suc r) bs)) stuck
 
--- what a matched structure does: a switch gives no value, and reading carries on in the table that its base value numbers
+-- what a matched structure does: a switch gives no value, and reading goes on in the table that its base value numbers.
+-- Where nothing matched, there is no value
 unfoldable pub afterMatch : (ℕ → List ℕ → Next) → Option Structure → ℕ → List ℕ → Next
 afterMatch carryOn none table bs = stuck
 afterMatch carryOn (some c) table bs =

@@ -19,10 +19,11 @@ openRefusal r =
 unfoldable pub opens : List ℕ → Bool
 opens r = eqb (openRefusal r) 0
 
--- the number of pointers answered: none on a refusal
+-- the count answered: how many pointers there are, 0 on a refusal. It counts pointers, since an element of this output is a pointer,
+-- which takes three of the lent numbers
 unfoldable pub openCount : List ℕ → ℕ
 openCount r = cond (opens r) (countOf r) 0
 
--- the 192 lent numbers afterwards: ID, length and index of each pointer, and the rest as it was
+-- the lent numbers afterwards: the ID, the length and the index of each pointer counted, three numbers a pointer, and the rest as it was
 unfoldable pub openNumbers : List ℕ → List ℕ → List ℕ
 openNumbers r lent = pointersFrom r 0 (openCount r) ++ drop (3 * openCount r) lent

@@ -1,5 +1,5 @@
--- Refusals 1 to 6, a rule each, over the bytes r of a record (01, The record; 01, Refusal numbers). Each means its row for bytes that
--- keep the rules before it; of other bytes it only has some answer.
+-- Refusals 1 to 6, a rule each, over the bytes r of a record (01, The record; 01, Numbers that bound the work; 01, Refusal numbers).
+-- Each means its row for bytes that keep the rules before it; of other bytes it only has some answer.
 use Prim.Native.Nat.{ℕ, _+_, _*_, _-_, _%_}
 use mathlib.Core.Bool.{Bool, not, _&&_, _||_, cond}
 use mathlib.Core.List.{List}
@@ -11,7 +11,7 @@ use Rattle.wire.specs.Rules.{allIn}
 use Rattle.header.specs.Header.{section1Right}
 use Rattle.pointers.specs.Pointers.{section0Length, dataAt, countOf, idOf, lengthOf, indexOf, present, startOf, endOf, sectionOf}
 
--- 1: the length is within the bounds, and is what the size field says
+-- 1: there are 142 to 1,048,576 bytes, as many as the size field says
 unfoldable pub lengthRight : List ℕ → Bool
 lengthRight r = leb 142 (length r) && (leb (length r) 1048576 && eqb (numberAt 4 r 2) (length r))
 
@@ -30,16 +30,17 @@ lettersRight r =
     && (eqb (byteAt r 17) 67
     && (eqb (byteAt r 18) 80 && (eqb (byteAt r 19) 69 && (eqb (byteAt r 20) 67 && eqb (byteAt r 21) 71))))
 
--- the first twelve pointers' IDs are 0 to 11 in order; each one more is above the one before it (so at least 12, since
--- the twelfth is 11)
+-- each of the first twelve pointers has its own number, from 0, as its ID; each one more has an ID above the one before it (so
+-- at least 12, since the twelfth has 11)
 unfoldable pub idRight : List ℕ → ℕ → Bool
 idRight r k = cond (ltb k 12) (eqb (idOf r k) k) (ltb (idOf r (k - 1)) (idOf r k))
 
--- Section 0's own pointer says index 7 and its true length
+-- the pointer of Section 0 gives the length that Section 0's header gives, and 7 as its index
 unfoldable pub ownPointerRight : List ℕ → Bool
 ownPointerRight r = eqb (lengthOf r 0) (section0Length r) && eqb (indexOf r 0) 7
 
--- 3: Section 0 has ID 0, the letters, 12 to 64 whole pointers and nothing else, lies in the record, and points to itself
+-- 3: Section 0 has ID 0, the letters, and 12 to 64 whole pointers with nothing behind them; it lies in the record, its own pointer is
+-- right, and the pointers' IDs are in order
 unfoldable pub section0Right : List ℕ → Bool
 section0Right r =
     eqb (numberAt 2 r 8) 0
@@ -64,7 +65,8 @@ headerRepeats r k = eqb (numberAt 2 r (startOf r k + 2)) (idOf r k) && eqb (numb
 unfoldable pub sectionsApart : List ℕ → ℕ → ℕ → Bool
 sectionsApart r k j = not (present r j) || (leb (endOf r j) (startOf r k) || leb (endOf r k) (startOf r j))
 
--- a section is absent, or is placed by the rules and overlaps none that the list has before it, so that no two overlap
+-- a section is absent; or it is placed by the rules, its header repeats its pointer, and it overlaps none whose pointer stands
+-- before its own, so that no two overlap
 unfoldable pub placedRight : List ℕ → ℕ → Bool
 placedRight r k = not (present r k) || (placeRight r k && (headerRepeats r k && allIn 1 k (sectionsApart r k)))
 
@@ -80,6 +82,6 @@ sectionCheckRight r k = not (present r k) || holdsCheck r (startOf r k) (endOf r
 unfoldable pub checksRight : List ℕ → Bool
 checksRight r = holdsCheck r 6 (6 + section0Length r) && allIn 1 (countOf r) (sectionCheckRight r)
 
--- 6: Section 1's data, behind its header, keep their rule, with at most one byte after the end mark
+-- 6: Section 1's data, behind its header, keep their rule; one byte may follow the end mark
 unfoldable pub fieldsRight : List ℕ → Bool
 fieldsRight r = section1Right 1 (sectionOf r 1) dataAt

@@ -1,4 +1,4 @@
--- A row's rule asked alone, as one mending a record asks them one by one (01, Refusal numbers 1 to 9).
+-- A row's rule asked alone, as one mending a record asks them one by one. The rows are 01's (Refusal numbers, 1 to 9); the call is ours.
 use Prim.Native.Nat.{ℕ}
 use mathlib.Core.Bool.{Bool, true, cond}
 use mathlib.Core.List.{List}
@@ -6,8 +6,8 @@ use lib.Dec.{eqb}
 use Rattle.record.specs.Rules.{lengthRight, recordCheckRight, section0Right, allPlacedRight, checksRight, fieldsRight}
 use Rattle.rules.specs.Rules.{tablesRight, leadsRight, agrees}
 
--- whether the rule of a row from 1 to 9 is kept: 01's row for bytes that keep every row before it; of other bytes the answer says nothing
--- of a record. Row 10 depends on what is asked for, and later rows on what is lent or on a stream: they answer true.
+-- whether the rule of a row from 1 to 9 is kept: 01's row for bytes that keep every row before it; of other bytes the answer says
+-- nothing of a record. Row 0 and rows over 9 answer true: none of them is a rule on a record's bytes alone
 unfoldable pub keeps : List ℕ → ℕ → Bool
 keeps r row =
     cond (eqb row 1) (lengthRight r)

@@ -1,4 +1,5 @@
--- Refusals 7 to 10, a rule each, over the bytes r of a record (01, Leads and samples; 01, Refusal numbers), and the smallest of 1 to 10.
+-- Refusals 7 to 10, a rule each, over the bytes r of a record (01, Code tables; 01, Leads and samples; 01, Refusal numbers), and the
+-- smallest of 1 to 10. Each means its row for bytes that keep the rules before it.
 use Prim.Native.Nat.{ℕ}
 use mathlib.Core.Bool.{Bool, not, _&&_, _||_, cond}
 use mathlib.Core.List.{List}
@@ -15,18 +16,19 @@ use Rattle.entries.specs.Beat.{beatLength, beatSamples, section4Right}
 unfoldable pub tablesRight : List ℕ → Bool
 tablesRight r = not (present r 2) || section2Right 1 (sectionOf r 2) dataAt
 
--- how many leads the record has, and whether a reference beat was subtracted from them
+-- how many leads Section 3 says that there are
 abbrev pub leadsOf : List ℕ → ℕ
 leadsOf r = leadCount (sectionOf r 3)
 
+-- Section 3 is there, and says that a beat was subtracted
 unfoldable pub hasBeat : List ℕ → Bool
 hasBeat r = present r 3 && subtracted (sectionOf r 3)
 
--- the beat has N samples, by Section 5's interval
+-- how many samples the record's beat has: its length is Section 4's, its interval Section 5's
 unfoldable pub beatCount : List ℕ → ℕ
 beatCount r = beatSamples (beatLength (sectionOf r 4)) (intervalOf (sectionOf r 5))
 
--- Sections 4 and 5 are needed where a beat was subtracted, and are judged only then
+-- where a beat was subtracted, Sections 4 and 5 are there and keep their rules; else nothing is asked of them
 unfoldable pub beatRight : List ℕ → Bool
 beatRight r =
     not (hasBeat r)
@@ -38,20 +40,21 @@ beatRight r =
 unfoldable pub rhythmRight : List ℕ → Bool
 rhythmRight r = not (present r 6) || section6Right (leadsOf r) (sectionOf r 6)
 
--- 8: Sections 3 to 6 keep their rules; there is no Section 6 without 3
+-- 8: Section 3 keeps its rule, Section 6 its own if it is there, and Sections 4 and 5 theirs if a beat was subtracted;
+-- with no Section 3 there is no Section 6
 unfoldable pub leadsRight : List ℕ → Bool
 leadsRight r =
     cond (present r 3)
     (section3Right (sectionOf r 3) && (beatRight r && rhythmRight r))
     (not (present r 6))
 
--- Sections 5 and 6 agree in step and interval where both are used
+-- no beat was subtracted, or Section 5 has both the step and the interval of Section 6
 unfoldable pub stepsAgree : List ℕ → Bool
 stepsAgree r =
     not (hasBeat r)
     || (eqb (stepOf (sectionOf r 5)) (stepOf (sectionOf r 6)) && eqb (intervalOf (sectionOf r 5)) (intervalOf (sectionOf r 6)))
 
--- 9: bimodal is 0, and steps and intervals agree
+-- 9: there is no Section 6; or its bimodal byte is 0, and its step and interval are Section 5's where a beat was subtracted
 unfoldable pub agrees : List ℕ → Bool
 agrees r = not (present r 6) || (eqb (bimodalOf (sectionOf r 6)) 0 && stepsAgree r)
 

@@ -1,5 +1,6 @@
--- Differences (01, Leads and samples): order 1 stores the first sample, order 2 the first two, as they are; then X(n)-X(n-1), or
--- X(n)-2X(n-1)+X(n-2). An order over 2, which no accepted record has, is taken as 2.
+-- Differences (01, Leads and samples). Order 0 stores every sample as it is. Orders 1 and 2 do so with as many samples as their number
+-- says; each later sample is stored less what those before it foretell: the last one (order 1), or twice the last one less the one
+-- before that (order 2). An order over 2, which no accepted record has, is taken as 2.
 use Prim.Native.Nat.{ℕ, zero, suc, _+_}
 use mathlib.Core.Bool.{cond}
 use mathlib.Core.List.{List, [], _∷_}
@@ -23,5 +24,6 @@ unfoldable pub storedFrom : ℕ → ℕ → ℤ → ℤ → List ℤ → List �
 storedFrom order place last other [] = []
 storedFrom order place last other (x ∷ xs) = storedOf order place x last other ∷ storedFrom order (place + 1) x last xs
 
+-- the values stored for all samples of a lead or a beat
 unfoldable pub differences : ℕ → List ℤ → List ℤ
 differences order xs = storedFrom order 0 (pos 0) (pos 0) xs

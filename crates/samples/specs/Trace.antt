@@ -28,7 +28,8 @@ abbrev pub afterTrace : (List ℤ → Trace) → Trace → Trace
 afterTrace goOn (rebuilt xs) = goOn xs
 afterTrace goOn (fault number) = fault number
 
--- a refusal number beside the samples that stand where it is 0
+-- the trace that an answer means, which has a number and samples beside it: with the number 0 these are rebuilt; any other
+-- number is a fault, whatever the samples are
 abbrev pub traceOf : ℕ → List ℤ → Trace
 traceOf zero xs = rebuilt xs
 traceOf (suc n) xs = fault (suc n)

@@ -22,6 +22,7 @@ twos w (negsuc n) = 2 ^ w - suc (n % 2 ^ w)
 unfoldable pub holds : ℕ → ℤ → Bool
 holds w v = ltb (mag v) (2 ^ w)
 
+-- two whole numbers are equal
 unfoldable pub equal : ℤ → ℤ → Bool
 equal (pos m) (pos n) = eqb m n
 equal (pos m) (negsuc n) = false
@@ -44,6 +45,7 @@ wordOf c v = prefixOf c ++ highBits (remainderOf c) (twos (remainderOf c) v)
 abbrev pub structureOf : List (List Structure) → ℕ → ℕ → Structure
 structureOf tables t k = getD (tableOf tables t) k noStructure
 
+-- the tables as the search knows them: a word and a kind for each structure and value
 abbrev pub rule : List (List Structure) → Codes ℤ
 rule tables = record {
   tables = length tables;
@@ -57,5 +59,6 @@ unfoldable pub plainBytes : List ℤ → List ℕ
 plainBytes [] = []
 plainBytes (v ∷ vs) = bytesOf 2 (twos 16 v) ++ plainBytes vs
 
+-- the same as bits
 unfoldable pub plainBits : List ℤ → List ℕ
 plainBits vs = bitsIn (plainBytes vs)

@@ -1,7 +1,8 @@
--- The promise on a stream (the third demand; 01, Refusal numbers, 15, and the tie in the paragraphs under the table): of all streams that the
--- reading rule, starting in table 1, takes to these values with nothing left, the one with the fewest bits, and of those equally short
--- the one that is smaller at the first differing bit. The values are the differences of a lead's samples: a stream reads to the samples
--- exactly if it reads to these. `tables` are those that Section 2's data mean; the empty list stands for no Section 2.
+-- The promise on a stream (the third demand: 01, What the contracts have to settle; row 15 and the tie: 01, Refusal numbers). Of
+-- all streams that the reading rule, starting in table 1, takes to these values with nothing left, the shortest has the fewest
+-- bits, and where others have as few, it is the one that has a 0 where another first differs from it. The values are the
+-- differences of a lead's samples: a stream reads to the samples exactly if it reads to these. `tables` are those that Section 2's
+-- data mean; the empty list stands for no Section 2.
 use Prim.Native.Nat.{ℕ, _≤_}
 use mathlib.Core.Path.{_≡_}
 use mathlib.Core.Bool.{Bool, true}
@@ -30,7 +31,7 @@ pub record Stream (tables : List (List Structure)) (vs : List ℤ) (bs : List �
   pub bits : areBits bs ≡ true
   pub reads : ReadsTo tables 1 bs vs
 
--- the shortest stream
+-- the shortest stream for these values, and of equally short ones the one that comes before all others
 pub record Shortest (tables : List (List Structure)) (vs : List ℤ) (bs : List ℕ) : Type 0 where
   pub stream : Stream tables vs bs
   pub fewest : (other : List ℕ) → Stream tables vs other → length bs ≤ length other

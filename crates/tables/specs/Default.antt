@@ -1,5 +1,6 @@
--- The default table (01, Code tables): 0 is `0`; k from 1 to 8 is k ones, then `00`; -k is k ones, then `01`; nine ones, then `0`, take
--- a remainder of 8 bits; ten ones one of 16.
+-- The default table (01, Code tables), by the runs of ones that its prefixes begin with. The value 0 has no run: its prefix is one bit,
+-- 0. A value of size 1 to 8 has a run as long as its size, then 0, then a bit for the sign, 1 if it is negative. A run of nine, ended
+-- by 0, stands before 8 bits of remainder, and a run of ten, with nothing to end it, before 16.
 use Prim.Native.Nat.{ℕ, _+_, _-_, _*_}
 use mathlib.Core.List.{List, [], _∷_, _++_}
 use lib.ListN.{length, replicate}
@@ -28,7 +29,8 @@ ones k = replicate k 1
 unfoldable pub twoValues : ℕ → List Structure
 twoValues k = valued (ones k ++ (0 ∷ (0 ∷ []))) 0 k ∷ (valued (ones k ++ (0 ∷ (1 ∷ []))) 0 (65536 - k) ∷ [])
 
--- the places run 0, 1, -1 up to 8, -8, then the two with a remainder, whose base value is not used
+-- the 19 structures in their order: the value 0; for each size from 1 to 8 the positive value, then the negative one; last the two with
+-- a remainder, whose base value is not used
 unfoldable pub defaultTable : List Structure
 defaultTable =
     valued (0 ∷ []) 0 0

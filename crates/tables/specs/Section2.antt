@@ -1,5 +1,5 @@
--- Section 2's data and refusal 7 (01, Code tables; 01, Refusal numbers). The data start at a place of s: at 16 behind a section's
--- header, at 0 where they are given alone.
+-- Section 2's data and refusal 7 (01, Code tables; 01, Numbers that bound the work; 01, Refusal numbers). The data start at a place of
+-- s: at 16 behind a section's header, at 0 where they are given alone.
 use Prim.Native.Nat.{ℕ, zero, suc, _+_, _*_}
 use mathlib.Core.Bool.{Bool, true, _&&_, cond}
 use mathlib.Core.List.{List, [], _∷_}
@@ -11,7 +11,7 @@ use Rattle.tables.specs.declared.Structure.{Structure}
 use Rattle.tables.specs.Structures.{structuresAt, structureRight, every, prefixFree}
 use Rattle.tables.specs.Default.{defaultTable}
 
--- the number of tables; 19999 means the default table alone, with no table following
+-- the first two bytes say how many tables follow; if they are 19999, none follows, and the default table is the only one
 abbrev pub tableCount : List ℕ → ℕ → ℕ
 tableCount s at = numberAt 2 s at
 
@@ -38,18 +38,18 @@ afterTables s o (suc n) = afterTables s (afterTable s o) n
 unfoldable pub tablesIn : List ℕ → ℕ → List (List Structure)
 tablesIn s at = cond (isDefault s at) (defaultTable ∷ []) (tablesFrom s (at + 2) (tableCount s at))
 
--- the table of a number, counted from 1
+-- the table of a number, counted from 1; no structures where there is no such table
 unfoldable pub tableOf : List (List Structure) → ℕ → List Structure
 tableOf tables zero = []
 tableOf tables (suc k) = getD tables k []
 
--- 1 to 64 structures, each by its rule, and no prefix that begins another
+-- 1 to 64 structures, each by its rule, and no prefix that begins another or equals it
 unfoldable pub tableRight : ℕ → List Structure → Bool
 tableRight tables cs =
     leb 1 (length cs) && (leb (length cs) 64 && (every (structureRight tables) cs && prefixFree cs))
 
--- 7: the default table alone, or 1 to 8 tables, each by its rule; and nothing behind but spare bytes. (The default table's two bytes
--- are even, so that no spare byte can follow them in a record.)
+-- 7: the default table alone, or 1 to 8 tables, each by its rule; and behind them at most so many spare bytes. (A section's length is
+-- even, so that in a record no spare byte can follow the default table's two bytes.)
 unfoldable pub section2Right : ℕ → List ℕ → ℕ → Bool
 section2Right spare s at =
     cond (isDefault s at) (endsBy spare s (at + 2))

@@ -8,7 +8,7 @@ use Rattle.wire.specs.Numbers.{byteAt, numberAt}
 use Rattle.bits.specs.Bits.{lowBits, begins}
 use Rattle.tables.specs.declared.Structure.{Structure}
 
--- the structure in the nine bytes from a place on
+-- the structure in the nine bytes from a place on: those five numbers in that order, in 1, 1, 1, 2 and 4 bytes
 unfoldable pub structureAt : List ℕ → ℕ → Structure
 structureAt s o = record {
   prefix = byteAt s o;
@@ -27,7 +27,7 @@ unfoldable pub structuresAt : List ℕ → ℕ → ℕ → List Structure
 structuresAt s o zero = []
 structuresAt s o (suc n) = structureAt s o ∷ structuresAt s (o + 9) n
 
--- the prefix's first bit is the lowest bit of the base code
+-- the bits of the prefix in the order in which they are read, which is from the base code's lowest bit upwards
 abbrev pub prefixOf : Structure → List ℕ
 prefixOf c = lowBits (c .prefix) (c .code)
 
@@ -58,7 +58,7 @@ unfoldable pub every : {A : Type 0} → (A → Bool) → List A → Bool
 every rule [] = true
 every rule (x ∷ xs) = rule x && every rule xs
 
--- within a table no prefix begins another or equals it
+-- any two structures of a table are apart
 unfoldable pub prefixFree : List Structure → Bool
 prefixFree [] = true
 prefixFree (c ∷ cs) = every (apart c) cs && prefixFree cs

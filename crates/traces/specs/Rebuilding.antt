@@ -1,5 +1,5 @@
--- What a stream of bits is rebuilt to (01, Leads and samples; 01, Refusal numbers 12 to 14): value after value is read, a sample is made
--- of each, and the first fault met decides.
+-- What a stream of bits is rebuilt to (01, Code tables; 01, Leads and samples; 01, Refusal numbers 12 to 14): value after value is
+-- read, a sample is made of each, and the first fault ends it.
 use Prim.Native.Nat.{ℕ, zero, suc, _+_}
 use mathlib.Core.Bool.{cond}
 use mathlib.Core.List.{List, []}
@@ -11,7 +11,7 @@ use Rattle.reading.specs.Reading.{Next, gave, stuck, readNext}
 use Rattle.samples.specs.Differences.{sampleOf}
 use Rattle.samples.specs.Trace.{Trace, rebuilt, fault, afterSample}
 
--- a value is read; 12 where the next code matches nothing or runs out
+-- a value is read; 12 where there is none to read
 abbrev pub afterNext : (ℤ → ℕ → List ℕ → Trace) → Next → Trace
 afterNext goOn (gave v table bs) = goOn v table bs
 afterNext goOn stuck = fault 12

@@ -49,6 +49,7 @@ pub record JobBytes (j : Job) : Type 0 where
   pub interval : j .interval < 65536
   pub samples : every fits16 (j .samples) ≡ true
 
+-- a record r gives back a job j
 pub record GivenBack (j : Job) (r : List ℕ) : Type 0 where
   -- the record opens
   pub opened : openRefusal r ≡ 0

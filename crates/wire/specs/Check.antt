@@ -1,5 +1,5 @@
--- The check of a record and of a section: CRC-CCITT, the polynomial 1021 hex, the register preset to FFFF, the most significant
--- bit first, no final change (01, The record).
+-- The check of a record and of a section (01, The record): CRC-CCITT with polynomial 1021 hex. The register starts at FFFF and takes
+-- each byte from its highest bit down; what it holds at the end is the check.
 use Prim.Native.Nat.{ℕ, zero, suc, _*_, _%_}
 use mathlib.Core.Bool.{cond}
 use mathlib.Core.List.{List, [], _∷_}

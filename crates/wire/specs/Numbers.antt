@@ -1,9 +1,10 @@
--- Numbers in bytes (01, The record). Places count from 0 here, as a slice's do; 01 counts bytes from 1.
+-- Numbers in bytes, the least byte first (01, The record). Places count from 0 here, as a slice's do; 01 counts bytes from 1.
 use Prim.Native.Nat.{ℕ, zero, suc, _+_, _*_, _-_, _/_, _%_}
 use mathlib.Core.List.{List, [], _∷_}
 use lib.ListN.{getD, take, drop}
 
--- the byte at a place; 0 where no byte stands, though every rule that reads a number also asks that its bytes stand there
+-- the byte at a place; 0 where no byte stands. Where a rule reads a number, that rule or one before it asks that
+-- all of the number's bytes stand there
 abbrev pub byteAt : List ℕ → ℕ → ℕ
 byteAt s i = getD s i 0
 

@@ -14,7 +14,7 @@ each (suc n) k p = p k && each n (k + 1) p
 unfoldable pub allIn : ℕ → ℕ → (ℕ → Bool) → Bool
 allIn from to p = each (to - from) from p
 
--- bytes end at a place, with at most so many spare bytes behind it (1 in a record, 0 in what the writer is given)
+-- bytes end at a place, with at most so many spare bytes behind it: 1 in a record, 0 in what the writer is given
 unfoldable pub endsBy : ℕ → List ℕ → ℕ → Bool
 endsBy spare s end = leb end (length s) && leb (length s) (end + spare)
 
