@@ -26,7 +26,7 @@ abbrev pub shownBytes : List ℕ → Step → List ℕ
 shownBytes s (Found f) = part s (f .start) (f .end)
 shownBytes s End = []
 
--- its tag, and whether a field is shown, in one
+-- the tag that a step shows, and whether it shows a field, in one
 abbrev pub factsOf : Step → Facts
 factsOf p = record { tag = shownTag p; more = shownMore p }
 
