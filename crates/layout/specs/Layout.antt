@@ -1,6 +1,6 @@
 -- The bytes of a record as the writer writes it (01, The record; 01, Leads and samples; 01, Refusal numbers, the paragraphs under the
--- table): Section 0 with twelve pointers, then Sections 1, 2, 3 and 6, each behind the one before it; the version byte stands in both
--- places of every header, and a byte that is reserved or spare is 0, but for Section 0's letters.
+-- table): Section 0 with twelve pointers, then Sections 1, 2 if it is given, 3 and 6, each behind the one before it; the version byte
+-- stands in both places of every header, and a byte that is reserved or spare is 0, but for Section 0's letters.
 use Prim.Native.Nat.{ℕ, zero, suc, _+_, _-_, _%_}
 use mathlib.Core.Bool.{cond}
 use mathlib.Core.List.{List, [], _∷_, _++_}
