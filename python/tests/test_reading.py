@@ -1,0 +1,176 @@
+"""Records, fields and leads, as the tool and the samples' own notes have them."""
+
+from __future__ import annotations
+
+import csv
+import io
+import threading
+import unittest
+from array import array
+
+import tigmavresh
+from common import ACCEPTED, SAMPLES, WITH_LEADS, Case, sample, tool
+
+try:
+    import numpy
+except ImportError:
+    numpy = None
+
+
+class Opening(Case):
+    def test_pointers_are_as_stored(self):
+        record = tigmavresh.open(sample("007"))
+        self.assertEqual(record.pointers[0], (0, 136, 7))
+        self.assertEqual(record.pointers[1], tigmavresh.Pointer(id=1, length=len(sample("007")) - 142, index=143))
+        self.assertEqual(record.pointers[2:], tuple((id, 0, 0) for id in range(2, 12)))
+
+    def test_pointers_of_makers_sections(self):
+        pointers = tigmavresh.open(sample("makers-sections")).pointers
+        self.assertEqual(len(pointers), 15)
+        ids = [pointer.id for pointer in pointers]
+        self.assertEqual(ids[:12], list(range(12)))
+        self.assertEqual(ids, sorted(set(ids)))
+
+    def test_a_record_keeps_its_bytes(self):
+        for name in ACCEPTED:
+            record = tigmavresh.open(sample(name))
+            self.assertEqual(record.data, sample(name))
+            self.assertIn(f"{len(sample(name))} bytes", repr(record))
+
+
+class Fields(Case):
+    FIELDS = [(2, b"007\0"), (14, b""), (25, b"\xe8\x07\x03\x0e"), (26, b"\x09\x1a\x35"), (30, b"Made up\0")]
+
+    def setUp(self):
+        self.record = tigmavresh.open(sample("007"))
+
+    def test_the_walk_shows_every_field(self):
+        self.assertEqual(list(self.record), self.FIELDS)
+        self.assertEqual(list(self.record), self.FIELDS, "a second walk")
+        self.assertEqual([field.tag for field in self.record], [2, 14, 25, 26, 30])
+
+    def test_fields_by_tag(self):
+        for tag, data in self.FIELDS:
+            self.assertEqual(self.record.field(tag), data)
+            self.assertEqual(self.record.fields(tag), [data])
+        self.assertEqual(self.record.fields(99), [])
+        self.assertEqual(self.record.fields(255), [])
+
+    def test_fields_that_are_not_there(self):
+        for tag, occurrence in [(2, 2), (2, 0), (99, 1), (255, 1), (2, 2**64 - 1)]:
+            self.refused(10, self.record.field, tag, occurrence)
+
+    def test_fields_that_repeat(self):
+        fields = [(30, b"one"), *self.FIELDS[:4], (30, b""), (30, b"three")]
+        data = tigmavresh.write(fields, [tigmavresh.NewLead(1, [0])], step=1, interval=1, order=0)
+        record = tigmavresh.open(data)
+        self.assertEqual(record.fields(30), [b"one", b"", b"three"])
+        self.assertEqual(record.field(30, 3), b"three")
+        self.assertEqual(record.field(30, occurrence=2), b"")
+        self.refused(10, record.field, 30, 4)
+
+    def test_identifiers(self):
+        other = tigmavresh.open(sample("7")).field(2)
+        self.assertEqual(other, b"7\0")
+        self.assertFalse(tigmavresh.same_identifier(self.record.field(2), other))
+        self.assertTrue(tigmavresh.same_identifier(bytearray(b"7\0"), other))
+        self.assertTrue(tigmavresh.same_identifier(b"", b""))
+        for one in [b"7", b"7\0\0", b" 7\0", b""]:
+            self.assertFalse(tigmavresh.same_identifier(one, other))
+
+
+class Leads(Case):
+    def table(self, name: str) -> list[list[str]]:
+        """A sample's leads as the tool shows them in CSV."""
+        return list(csv.reader(io.StringIO(tool("samples", SAMPLES / f"{name}.scp", "--csv"))))
+
+    def test_samples_are_those_of_the_tool(self):
+        for name in WITH_LEADS:
+            record, (heads, *rows) = tigmavresh.open(sample(name)), self.table(name)
+            self.assertEqual(len(record.leads()), len(heads) - 1)
+            for place, head in enumerate(heads[1:], 1):
+                lead = record.lead(place)
+                shown = {int(row[0]): int(row[place]) for row in rows if row[place]}
+                self.assertEqual(dict(enumerate(lead.samples.tolist(), lead.first)), shown)
+                self.assertEqual(max(shown), lead.last)
+                self.assertIn(f"({lead.step} nV)", head)
+
+    def test_leads_agree_with_their_entries(self):
+        for name in WITH_LEADS:
+            record = tigmavresh.open(sample(name))
+            for place, entry in enumerate(record.leads(), 1):
+                self.assertEqual(entry, record.entry(place))
+                lead = record.lead(place)
+                said = entry.id, entry.first, entry.last, entry.step, entry.interval, entry.flags
+                self.assertEqual(said, (lead.id, lead.first, lead.last, lead.step, lead.interval, lead.flags))
+
+    def test_a_lead_with_its_beat(self):
+        record = tigmavresh.open(sample("beat"))
+        lead = record.lead(2)
+        self.assertEqual((lead.id, lead.first, lead.step, lead.interval, lead.flags), (2, 5, 5000, 2000, 5))
+        self.assertEqual(lead.samples.tolist()[:10], [28, 119, 80, -9, -2, -1, -1, 0, 1, 2])
+        self.assertEqual(record.lead(1).samples.tolist(), record.lead(1).samples.tolist(), "read twice")
+
+    def test_an_entry(self):
+        entry = tigmavresh.open(sample("limb-leads")).entry(4)
+        expected = tigmavresh.Entry(
+            id=62, first=41, last=80, step=5000, interval=2000, order=2, flags=24, bytes=8, leads=6
+        )
+        self.assertEqual(entry, expected)
+
+    def test_places_without_a_lead(self):
+        record = tigmavresh.open(sample("two-leads"))
+        for place in [0, 3, 33, 2**64 - 1]:
+            self.refused(10, record.lead, place)
+            self.refused(10, record.entry, place)
+
+    def test_a_record_without_leads(self):
+        record = tigmavresh.open(sample("007"))
+        self.refused(10, record.leads)
+        self.refused(10, record.lead, 1)
+
+    def test_samples_are_the_callers_own(self):
+        record = tigmavresh.open(sample("two-leads"))
+        samples = record.lead(1).samples
+        before = samples.tolist()
+        samples[0] = 77
+        self.assertEqual(record.lead(1).samples.tolist(), before)
+
+    @unittest.skipUnless(numpy, "numpy is not installed")
+    def test_samples_by_numpy(self):
+        samples = tigmavresh.open(sample("beat")).lead(2).samples
+        self.assertIsInstance(samples, numpy.ndarray)
+        self.assertEqual(samples.dtype, numpy.int16)
+        self.assertEqual(samples.shape, (26,))
+
+    def test_samples_without_numpy(self):
+        kept, tigmavresh.reading.numpy = tigmavresh.reading.numpy, None
+        try:
+            samples = tigmavresh.open(sample("beat")).lead(2).samples
+        finally:
+            tigmavresh.reading.numpy = kept
+        self.assertIsInstance(samples, array)
+        self.assertEqual((samples.typecode, len(samples), samples[1]), ("h", 26, 119))
+
+    def test_threads_read_side_by_side(self):
+        records = [tigmavresh.open(sample(name)) for name in WITH_LEADS]
+        alone = [[record.lead(1).samples.tolist()] * 20 for record in records]
+        found: list[list[list[int]]] = [[] for _ in records]
+
+        def read(at: int) -> None:
+            found[at] = [records[at].lead(1).samples.tolist() for _ in range(20)]
+
+        threads = [threading.Thread(target=read, args=(at,)) for at in range(len(records))]
+        for thread in threads:
+            thread.start()
+        for thread in threads:
+            thread.join()
+        self.assertEqual(found, alone)
+
+
+class Checks(Case):
+    def test_the_check(self):
+        self.assertEqual(tigmavresh.crc(b"123456789"), 0x29B1)
+        self.assertEqual(tigmavresh.crc(b""), 0xFFFF)
+        data = sample("007")
+        self.assertEqual(tigmavresh.crc(data[2:]), int.from_bytes(data[:2], "little"))

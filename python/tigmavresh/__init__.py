@@ -1,0 +1,39 @@
+"""Opens, checks and writes SCP-ECG records by the proved library.
+
+    import tigmavresh
+
+    with open("record.scp", "rb") as file:
+        record = tigmavresh.open(file.read())
+    record.field(2)                 # the patient identifier, byte for byte
+    for tag, data in record: ...    # every header field
+    lead = record.lead(1)
+    lead.samples, lead.step         # whole numbers, and the nanovolts that each of them counts
+
+Whether a record is accepted, and every number answered, is the library's word: this module lends it memory and adds no
+judgement of its own. What is refused raises `Refused`, with the number of the rule that is broken.
+
+Bytes that are lent are never changed. What is not `bytes` (a `bytearray`, a `memoryview`, ...) is copied first, so that a
+record is what it was when it was opened. Calls may be made from any number of threads, and run side by side.
+"""
+
+from .reading import Entry, Field, Lead, Pointer, Record, breaks, crc, open, same_identifier
+from .refusal import Refused
+from .writing import DEFAULT_TABLE, Coded, NewLead, encode, write
+
+__all__ = [
+    "DEFAULT_TABLE",
+    "Coded",
+    "Entry",
+    "Field",
+    "Lead",
+    "NewLead",
+    "Pointer",
+    "Record",
+    "Refused",
+    "breaks",
+    "crc",
+    "encode",
+    "open",
+    "same_identifier",
+    "write",
+]

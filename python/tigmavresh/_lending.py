@@ -1,0 +1,47 @@
+"""What a caller gives, as the library can be lent it.
+
+ctypes would cut a number to its width in silence, and would let another thread change a buffer during a call. So numbers are
+held to their width here, and what is lent to be read is always `bytes`, which nobody changes.
+"""
+
+from __future__ import annotations
+
+import operator
+from array import array
+from typing import Any, Iterable, Union
+
+Bytes = Union[bytes, bytearray, memoryview]
+
+
+def bytes_of(data: Bytes) -> bytes:
+    """The bytes of a bytes-like object as they are now: a copy, unless they are `bytes`."""
+    if isinstance(data, bytes):
+        return data
+    with memoryview(data) as view:
+        return view.tobytes()
+
+
+def number(name: str, value: Any, bits: int) -> int:
+    """A whole number that fits so many bits."""
+    value = operator.index(value)
+    if not 0 <= value < 1 << bits:
+        raise OverflowError(f"{name}: {value} is outside 0 to {(1 << bits) - 1}")
+    return value
+
+
+def size(name: str, value: Any) -> int:
+    """A whole number that C's size_t can have."""
+    return number(name, value, 64)
+
+
+def samples_of(samples: Iterable[int]) -> array[int]:
+    """Samples of 16 bits, from an array of numpy or of the module `array`, a list, or any other whole numbers."""
+    if isinstance(samples, (bytes, bytearray)):
+        raise TypeError("samples are whole numbers, not bytes")
+    try:
+        view = memoryview(samples)  # type: ignore[arg-type]
+    except TypeError:
+        view = None
+    if view is not None and view.format == "h" and view.ndim == 1:
+        return array("h", view.tobytes())
+    return array("h", iter(samples))

@@ -1,0 +1,175 @@
+"""Reading: a record opened, its header fields, its leads; and the questions that can be asked of any bytes."""
+
+from __future__ import annotations
+
+import ctypes
+from array import array
+from dataclasses import dataclass
+from typing import Iterator, NamedTuple, Union
+
+from ._lending import Bytes, bytes_of, number, size
+from ._library import SCP_POINTERS_ROOM, SCP_SAMPLES_MAX, scp
+from .refusal import check
+
+try:
+    import numpy
+except ImportError:
+    numpy = None  # type: ignore[assignment]
+
+Samples = Union["numpy.ndarray", "array[int]"]
+
+# Where the first field of Section 1 stands: just after the section's header.
+_FIRST_FIELD = 16
+
+# The bit of the flags that tells of a reference beat.
+_BEAT = 1
+
+
+class Pointer(NamedTuple):
+    """A pointer of Section 0, as it is stored."""
+
+    id: int
+    length: int
+    """The section's bytes with its header; 0 if it is absent."""
+    index: int
+    """Where its first byte stands in the record, counted from 1. Any number if it is absent."""
+
+
+class Field(NamedTuple):
+    """A header field of Section 1."""
+
+    tag: int
+    data: bytes
+
+
+class Entry(NamedTuple):
+    """What a record says of a lead, its stream unread."""
+
+    id: int
+    first: int
+    """The number of the first sample."""
+    last: int
+    """The number of the last sample."""
+    step: int
+    """The nanovolts that a sample of 1 stands for."""
+    interval: int
+    """The microseconds between two samples."""
+    order: int
+    """The order of the differences that are stored: 0, 1 or 2."""
+    flags: int
+    """The flags of Section 3, for all leads; bit 0: a reference beat was subtracted."""
+    bytes: int
+    """How many bytes the lead's stream has in Section 6."""
+    leads: int
+    """How many leads the record has."""
+
+
+@dataclass(frozen=True, eq=False)
+class Lead:
+    """A lead that was read: every sample as it was before it was coded, a reference beat added back."""
+
+    id: int
+    first: int
+    """The number of the first sample."""
+    step: int
+    """The nanovolts that a sample of 1 stands for."""
+    interval: int
+    """The microseconds between two samples."""
+    flags: int
+    """The flags of Section 3, for all leads; bit 0: a reference beat was subtracted."""
+    samples: Samples
+    """The samples: an int16 array of numpy where that is installed, else an `array('h')`."""
+
+    @property
+    def last(self) -> int:
+        """The number of the last sample."""
+        return self.first + len(self.samples) - 1
+
+
+class Record:
+    """A record that was opened. Iterating over it walks over its header fields, in the order that they stand in."""
+
+    def __init__(self, data: Bytes) -> None:
+        self.data = bytes_of(data)
+        """The record's bytes."""
+        room = (ctypes.c_uint32 * SCP_POINTERS_ROOM)()
+        opened = scp.scp_open(self.data, len(self.data), room)
+        check(opened.refusal)
+        self.pointers = tuple(Pointer(*room[at : at + 3]) for at in range(0, 3 * opened.count, 3))
+        """The pointers of Section 0, as they are stored."""
+
+    def __repr__(self) -> str:
+        return f"<Record of {len(self.data)} bytes, {len(self.pointers)} pointers>"
+
+    def __iter__(self) -> Iterator[Field]:
+        part = scp.scp_walk_start(self.data, len(self.data))
+        check(part.refusal)
+        section = self.data[part.start : part.start + part.length]
+        step = scp.scp_walk_step(section, len(section), _FIRST_FIELD)
+        while step.more:
+            yield Field(step.tag, section[step.start : step.start + step.length])
+            step = scp.scp_walk_step(section, len(section), step.next)
+
+    def field(self, tag: int, occurrence: int = 1) -> bytes:
+        """The bytes of one field. Refused with 10 if there is none; tag 255 is the end mark, and no field."""
+        part = scp.scp_field(self.data, len(self.data), number("tag", tag, 8), size("occurrence", occurrence))
+        check(part.refusal)
+        return self.data[part.start : part.start + part.length]
+
+    def fields(self, tag: int) -> list[bytes]:
+        """The bytes of every field with this tag, in the order that they stand in; there may be none."""
+        tag = number("tag", tag, 8)
+        return [field.data for field in self if field.tag == tag]
+
+    def entry(self, place: int) -> Entry:
+        """What the record says of the lead at a place, from 1, judged as reading is: refused with 7 to 10."""
+        said = scp.scp_lead(self.data, len(self.data), size("place", place))
+        check(said.refusal)
+        return Entry(*(getattr(said, name) for name in Entry._fields))
+
+    def leads(self) -> list[Entry]:
+        """What the record says of each lead, in the order of Section 3. Refused with 7 to 9, and with 10 if it has none."""
+        first = self.entry(1)
+        return [first] + [self.entry(place) for place in range(2, first.leads + 1)]
+
+    def lead(self, place: int) -> Lead:
+        """The lead at a place, from 1, with all its samples. Refused with 7 to 10 and 12 to 14."""
+        entry = self.entry(place)
+        room = (ctypes.c_int16 * (entry.last - entry.first + 1))()
+        work = (ctypes.c_int16 * (SCP_SAMPLES_MAX if entry.flags & _BEAT else 0))()
+        lead = scp.scp_read_lead(self.data, len(self.data), place, room, len(room), work, len(work))
+        check(lead.refusal)
+        return Lead(lead.id, lead.first, lead.step, lead.interval, lead.flags, _samples(room))
+
+
+def _samples(room: ctypes.Array[ctypes.c_int16]) -> Samples:
+    """Samples as they are given to the caller."""
+    if numpy is None:
+        return array("h", bytes(room))
+    return numpy.frombuffer(room, dtype=numpy.int16)
+
+
+def open(data: Bytes) -> Record:
+    """Opens a record. Refused with the smallest of 1 to 6 that applies."""
+    return Record(data)
+
+
+def breaks(data: Bytes, row: int) -> bool:
+    """Whether bytes break the rule of a row, 1 to 9, asked alone; of any other row, false.
+
+    The answer means its row where the rules of all smaller rows are kept.
+    """
+    lent = bytes_of(data)
+    return bool(scp.scp_breaks(lent, len(lent), number("row", row, 8)))
+
+
+def crc(data: Bytes) -> int:
+    """The check of bytes: CRC-CCITT, preset FFFF, most significant bit first."""
+    lent = bytes_of(data)
+    return scp.scp_crc(lent, len(lent))
+
+
+def same_identifier(a: Bytes, b: Bytes) -> bool:
+    """Whether two identifiers are the same: whether all their bytes are equal. No number, trimming or folding."""
+    lent_a, lent_b = bytes_of(a), bytes_of(b)
+    return bool(scp.scp_same_identifier(lent_a, len(lent_a), lent_b, len(lent_b)))

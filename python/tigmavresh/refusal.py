@@ -1,0 +1,28 @@
+"""The refusal: what is raised where the library refuses."""
+
+from __future__ import annotations
+
+from ._rules import RULES
+
+
+class Refused(Exception):
+    """The library refused. It has shown nothing and changed nothing."""
+
+    def __init__(self, number: int) -> None:
+        super().__init__(number)
+        self.number = number
+        """The number of the rule that is broken, 1 to 17: the first that applies, in the order of the call."""
+
+    @property
+    def rule(self) -> str:
+        """What the rule asks, in a few words."""
+        return RULES[self.number]
+
+    def __str__(self) -> str:
+        return f"{self.number}: {self.rule}"
+
+
+def check(number: int) -> None:
+    """Raises what an answer's refusal says: nothing for 0."""
+    if number:
+        raise Refused(number)
