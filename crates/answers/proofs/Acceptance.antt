@@ -2,27 +2,42 @@
 -- nothing.
 use Prim.Native.Nat.{ℕ, zero, suc, _+_, _-_, _*_, _≤_}
 use mathlib.Core.Path.{_≡_, refl, sym, ap, _∙_}
-use mathlib.Core.Bool.{Bool, true, false, cond}
-use mathlib.Core.List.{List, [], _∷_, _++_}
+use mathlib.Core.Bool.{true}
+use mathlib.Core.List.{List, _∷_, _++_}
+use mathlib.Core.Option.{Option, none, some}
 use native.Mathlib.Omega.{arith}
-use lib.Dec.{eqb}
-use borrow.Author.Tests.{eq-eqb}
 use lib.IntN.{ℤ}
-use lib.ListN.{length, drop}
+use lib.ListN.{length, take, drop}
+use lib.Seq.{take-at}
 use Rattle.wire.specs.Numbers.{part}
 use Rattle.header.specs.declared.Field.{Field}
 use Rattle.header.specs.declared.Step.the-variants.{Found}
-use Rattle.header.specs.Fields.{fieldsFrom, withTag, occurring}
-use Rattle.pointers.specs.Pointers.{dataAt, countOf, startOf, sectionOf, pointersFrom}
+use Rattle.header.proofs.Laws.{step-found, fields-step}
+use Rattle.header.specs.Fields.{stepAt, onward, fieldsFrom, withTag, occurring}
+use Rattle.pointers.specs.Pointers.{dataAt, countOf, startOf, lengthOf, sectionOf, pointersFrom}
 use Rattle.record.specs.Opening.{openRefusal, opens, openCount, openNumbers}
 use Rattle.fields.specs.declared.Place.the-variants.{At, Refused}
-use Rattle.fields.specs.Lookup.{placeFound, fieldPlace, refusalOf, partBytes}
+use Rattle.fields.specs.Lookup.{placeFound, fieldPlace, walkPlace, refusalOf, partBytes}
 use Rattle.fields.proofs.Laws.{place-opened, found-inside}
-use Rattle.samples.specs.Trace.{rebuilt}
-use Rattle.leads.specs.Leads.{traceAt}
+use Rattle.bits.specs.Bits.{bitsIn}
+use Rattle.tables.specs.Structures.{every}
+use Rattle.samples.specs.Differences.{differences}
+use Rattle.samples.specs.Trace.{rebuilt, fits16}
+use Rattle.traces.specs.Rebuilding.{rebuild}
+use Rattle.leads.specs.Answers.{entryOf}
+use Rattle.leads.proofs.Laws.{trace-length}
+use Rattle.packing.specs.Packing.{bytesFor, packed}
+use Rattle.packing.proofs.Laws.{length-packed}
+use Rattle.encode.specs.declared.Coded.{Coded}
+use Rattle.encode.specs.Encoding as E
+use Rattle.encode.specs.Encoding.{tablesGiven, givenRight, foundRefusal, codedAs, outAs, Encoded}
+use Rattle.trip.proofs.Traces.{stream-back}
+use Rattle.trip.proofs.Tables.{given-right}
 use Rattle.trip.proofs.Written.{written-back}
-use Rattle.answers.specs.Demands.{AllKept, rowsOpened, Demand2}
-use Rattle.answers.proofs.Refusals.{opened, streamed}
+use Rattle.answers.specs.Demands.{AllKept, rowsOpened, rowsLead, Demand2}
+use Rattle.answers.proofs.Laws.{none-broken}
+use Rattle.answers.proofs.Refusals.{lead, opened, streamed}
+use Rattle.answers.proofs.Fewest.{given-kept, rebuilds-with}
 use Rattle.answers.proofs.Identifiers.{same-equal, equal-same}
 
 opened-whole : (r lent : List ℕ) → AllKept (rowsOpened r)
@@ -45,12 +60,55 @@ shown r tag n f kept e =
     place-opened r _ (Refused (openRefusal r)) (opened r kept) ∙ ap (placeFound start) e in
     rw (place, end) (refl, refl)
 
+walked : (r : List ℕ) → AllKept (rowsOpened r) → (refusalOf (walkPlace r) ≡ 0) × (partBytes r (walkPlace r) ≡ sectionOf r 1)
+unfolding walkPlace sectionOf
+walked r kept = rw (place-opened r (At (startOf r 1) (lengthOf r 1)) (Refused (openRefusal r)) (opened r kept)) (refl, refl)
+
+-- ---- a step of the walk
+
+step-shown : (s : List ℕ) (at : ℕ) (f : Field) → stepAt s at ≡ Found f
+    → (fieldsFrom s at ≡ f ∷ fieldsFrom s (f .end)) × (f .start ≤ f .end) × (f .end ≤ length s)
+step-shown s at f e = let w = step-found s at f e in (fields-step s at ∙ ap (onward (fieldsFrom s)) e, w .order, w .end)
+
+-- ---- what encoding a lead answers
+
+-- by what was found, and the number that it gives
+coded-back : (s2 : List ℕ) (xs : List ℤ) (order : ℕ) (out : List ℕ) → givenRight s2 ≡ true → every fits16 xs ≡ true
+    → (found : Option (List ℕ)) → E.Found (tablesGiven s2) (differences order xs) found → (n : ℕ) → foundRefusal (length out) found ≡ n
+    → codedAs n found .refusal ≡ 0
+    → rebuild (tablesGiven s2) order (length xs) (bitsIn (take (codedAs n found .bytes) (outAs n found out))) ≡ rebuilt xs
+unfolding foundRefusal
+coded-back s2 xs order out right fit none F zero e h = absurd (omega arith)
+coded-back s2 xs order out right fit none F (suc n) e h = absurd (omega arith)
+coded-back s2 xs order out right fit (some bs) F (suc n) e h = absurd (omega arith)
+coded-back s2 xs order out right fit (some bs) F zero e h =
+    let tables = tablesGiven s2 in
+    rw (take-at (packed bs) (drop (bytesFor (length bs)) out) (bytesFor (length bs)) (length-packed bs))
+    (stream-back (length tables) tables (given-right s2 right) order xs bs fit (F .stream))
+
+encoded-back : {s2 : List ℕ} {xs : List ℤ} {order : ℕ} {work out : List ℕ} {a : Coded} {w o : List ℕ} → every fits16 xs ≡ true
+    → Encoded s2 xs order work out a w o → a .refusal ≡ 0
+    → rebuild (tablesGiven s2) order (length xs) (bitsIn (take (a .bytes) o)) ≡ rebuilt xs
+encoded-back fit (E.refused n e) h = absurd (omega arith)
+encoded-back {s2 = s2} {xs = xs} {order = order} {work = work} {out = out} fit (E.searched found e F) h =
+    coded-back s2 xs order out (given-kept s2 (length xs) order (length work) e) fit found F (foundRefusal (length out) found) refl h
+
+-- ---- the demand
+
 pub demand2 : Demand2
 demand2 = record {
   opened = opened-whole;
   shown = shown;
+  walked = walked;
+  step-found = step-shown;
+  step-end = λ s at e. fields-step s at ∙ ap (onward (fieldsFrom s)) e;
   same-equal = same-equal;
   equal-same = equal-same;
-  read = λ r place room work xs out kept e. rw (streamed r place room work kept, e) (refl, refl);
-  given-back = λ j work out a w o fits W. written-back j work out fits W;
+  entered = λ r place kept. ap (entryOf r (place - 1)) (lead r place ∙ none-broken (rowsLead r place) 1 kept);
+  read = λ r place room work xs out kept e.
+      rw (streamed r place room work kept, e) (refl, refl, trace-length r (place - 1) xs (sym e));
+  undone = λ s2 order xs bs rest right fit s few.
+      rebuilds-with (length (tablesGiven s2)) (tablesGiven s2) (given-right s2 right) order xs bs rest fit s few;
+  coded-back = λ s2 xs order work out a w o fit e. encoded-back fit e;
+  given-back = λ j work out a w o fits f. written-back j work out fits f;
 }

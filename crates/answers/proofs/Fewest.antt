@@ -1,5 +1,5 @@
 -- The third demand: of all streams that are rebuilt to the samples, the writer's has the fewest bits. Assumes nothing.
-use Prim.Native.Nat.{ℕ, zero, suc, _+_, _*_, _≤_, _<_}
+use Prim.Native.Nat.{ℕ, _+_, _*_, _≤_, _<_}
 use mathlib.Core.Path.{_≡_, refl, sym, ap, _∙_}
 use mathlib.Core.Bool.{Bool, true, false, cond}
 use mathlib.Core.List.{List, [], _∷_, _++_, append-nil, append-assoc}
@@ -8,7 +8,7 @@ use native.Mathlib.Omega.{arith}
 use lib.Dec.{leb}
 use borrow.Author.Tests.{leb-true, leb-false, le-leb}
 use lib.IntN.{ℤ, pos}
-use lib.ListN.{length, getD, take, drop, length-append}
+use lib.ListN.{length, length-append}
 use lib.Seq.{take-append-seam}
 use Rattle.wire.specs.Rules.{unless}
 use Rattle.bits.proofs.Laws.{Small, small-take}
@@ -20,21 +20,16 @@ use Rattle.samples.specs.Differences.{storedOf, sampleOf, storedFrom, differenc
 use Rattle.samples.specs.Trace.{Trace, rebuilt, fault, fits16, behind, afterSample}
 use Rattle.samples.proofs.Laws.{stored-sample}
 use Rattle.traces.specs.Rebuilding.{afterNext, rebuildFrom, rebuild}
-use Rattle.packing.specs.Packing.{bytesFor, packed}
-use Rattle.shortest.specs.Shortest.{ReadsTo, done, value, Stream, Shortest, NoStream}
+use Rattle.packing.specs.Packing.{bytesFor}
+use Rattle.shortest.specs.Shortest.{ReadsTo, done, value, Stream, Shortest}
 use Rattle.shortest.proofs.Laws.{bits-small, small-bits}
 use Rattle.shortest.proofs.Cut.{next-cut}
 use Rattle.encode.specs.declared.Coded.{Coded}
 use Rattle.encode.specs.Encoding.{tablesGiven, askedRight, givenRight, workRight, askedRefusal, Found, foundRefusal, codedAs, outAs, Encoded, refused, searched}
-use Rattle.compose.specs.declared.Written.{Written}
-use Rattle.compose.specs.Writing as C
-use Rattle.compose.specs.Writing.{Job, cut, FoundAll, streamsOf, recordOf, writtenAs, Wrote}
-use Rattle.trip.specs.GivenBack.{JobBytes, samplesOf}
-use Rattle.trip.proofs.Compose.{length-cut, cut-fits, found-at}
-use Rattle.trip.proofs.Written.{job-kept}
+use Rattle.rules.proofs.Laws.{kept-first}
 use Rattle.trip.proofs.Traces.{rebuilt-from}
 use Rattle.trip.proofs.Tables.{given-right}
-use Rattle.answers.specs.Demands.{StreamFor, FewestBits, Encodes, long, short, coded, Demand3}
+use Rattle.answers.specs.Demands.{StreamFor, FewestBits, Encodes, long, short, coded}
 use Rattle.answers.specs.Demands as D
 
 -- ---- what is rebuilt to samples begins with a stream for their differences
@@ -88,23 +83,25 @@ module _ (n : ℕ) (tables : List (List Structure)) (right : every (tableRight n
 
   -- ---- the shortest stream for the differences has the fewest bits for the samples
 
-  -- a stream for the differences is rebuilt to the samples
-  rebuilds : (xs : List ℤ) (bs : List ℕ) → every fits16 xs ≡ true → Stream tables (differences order xs) bs → StreamFor tables order xs bs
+  -- a stream for the differences is rebuilt to the samples, with fewer than 8 bits behind it
+  pub rebuilds-with : (xs : List ℤ) (bs rest : List ℕ) → every fits16 xs ≡ true → Stream tables (differences order xs) bs → length rest < 8
+      → rebuild tables order (length xs) (bs ++ rest) ≡ rebuilt xs
   unfolding rebuild differences
+  rebuilds-with xs bs rest fit s few = rebuilt-from n tables right rest few order xs 0 (pos 0) (pos 0) 1 bs fit (s .reads)
+
+  rebuilds : (xs : List ℤ) (bs : List ℕ) → every fits16 xs ≡ true → Stream tables (differences order xs) bs → StreamFor tables order xs bs
   rebuilds xs bs fit s = record {
     bits = s .bits;
-    reads =
-        ap (rebuildFrom tables order (length xs) 0 (pos 0) (pos 0) 1) (sym (append-nil bs))
-        ∙ rebuilt-from n tables right [] (omega arith) order xs 0 (pos 0) (pos 0) 1 bs fit (s .reads);
+    reads = ap (rebuild tables order (length xs)) (sym (append-nil bs)) ∙ rebuilds-with xs bs [] fit s (omega arith);
   }
 
   -- and what is rebuilt to the samples has such a stream in it, with no more bits
-  record Inside (xs : List ℤ) (bs : List ℕ) : Type 0 where
+  pub record Inside (xs : List ℤ) (bs : List ℕ) : Type 0 where
     pub stream : List ℕ
     pub reads : Stream tables (differences order xs) stream
     pub fewer : length stream ≤ length bs
 
-  inside : (xs : List ℤ) (bs : List ℕ) → StreamFor tables order xs bs → Inside xs bs
+  pub inside : (xs : List ℤ) (bs : List ℕ) → StreamFor tables order xs bs → Inside xs bs
   unfolding rebuild differences
   inside xs bs s =
       let small = bits-small bs (s .bits) in
@@ -116,7 +113,7 @@ module _ (n : ℕ) (tables : List (List Structure)) (right : every (tableRight n
         fewer = omega (arith, l, ap length (b .whole));
       }
 
-  fewest : (xs : List ℤ) (bs : List ℕ) → every fits16 xs ≡ true → Shortest tables (differences order xs) bs → FewestBits tables order xs bs
+  pub fewest : (xs : List ℤ) (bs : List ℕ) → every fits16 xs ≡ true → Shortest tables (differences order xs) bs → FewestBits tables order xs bs
   fewest xs bs fit s = record {
     stream = rebuilds xs bs fit (s .stream);
     fewest = λ other o. let i = inside xs other o in omega (arith, s .fewest (i .stream) (i .reads), i .fewer);
@@ -152,44 +149,9 @@ encoding {s2 = s2} {xs = xs} {order = order} {out = out} right kept fit (searche
     let g = given-right s2 right in
     encodes (length (tablesGiven s2)) (tablesGiven s2) g order xs out fit found F
 
--- ---- writing a record
-
-module _ (j : Job) (out : List ℕ) (fits : JobBytes j) (founds : List (Option (List ℕ)))
-    (found : FoundAll (j .section2) (j .order) (cut (j .counts) (j .samples)) founds) (right : givenRight (j .section2) ≡ true) where
-  -- lead k's stream, where every lead has one
-  lead-fewest : (streams : List (List ℕ)) → streamsOf founds ≡ some streams → (k : ℕ) → k < length (j .counts)
-      → (bs : List ℕ) × FewestBits (tablesGiven (j .section2)) (j .order) (samplesOf j k) bs × (getD streams k [] ≡ packed bs)
-  lead-fewest streams e k l =
-      let g = given-right (j .section2) right in
-      let f = found-at (j .section2) (j .order) streams found e k (rw (length-cut (j .counts) (j .samples)) l) in
-      let fit = cut-fits (j .counts) (j .samples) (fits .samples) k in
-      (f .bits, fewest (length (tablesGiven (j .section2))) (tablesGiven (j .section2)) g (j .order) (samplesOf j k) (f .bits) fit (f .shortest), f .bytes)
-
-  accepted : (o : Option (List (List ℕ))) → streamsOf founds ≡ o → (n : ℕ) → C.foundRefusal j (length out) o ≡ n
-      → writtenAs j n o .refusal ≡ 0
-      → (streams : List (List ℕ)) × (take (writtenAs j n o .bytes) (C.outAs j n o out) ≡ recordOf j streams)
-      × ((k : ℕ) → k < length (j .counts)
-      → (bs : List ℕ) × FewestBits (tablesGiven (j .section2)) (j .order) (samplesOf j k) bs × (getD streams k [] ≡ packed bs))
-  unfolding C.foundRefusal
-  accepted none e zero f h = absurd (omega arith)
-  accepted none e (suc n) f h = absurd (omega arith)
-  accepted (some streams) e (suc n) f h = absurd (omega arith)
-  accepted (some streams) e zero f h =
-      let r = recordOf j streams in
-      (streams, take-append-seam r (drop (length r) out), lead-fewest streams e)
-
-writing : {j : Job} {work out : List ℕ} {a : Written} {w o : List ℕ} → JobBytes j → Wrote j work out a w o → a .refusal ≡ 0
-    → (streams : List (List ℕ)) × (take (a .bytes) o ≡ recordOf j streams)
-    × ((k : ℕ) → k < length (j .counts)
-    → (bs : List ℕ) × FewestBits (tablesGiven (j .section2)) (j .order) (samplesOf j k) bs × (getD streams k [] ≡ packed bs))
-writing fits (C.refused n e) h = absurd (omega arith)
-writing {j = j} {work = work} {out = out} fits (C.searched founds e found) h =
-    accepted j out fits founds found (job-kept j (length work) e .2) (streamsOf founds) refl
-    (C.foundRefusal j (length out) (streamsOf founds)) refl h
-
-pub demand3 : Demand3
-demand3 = record {
-  encoding = λ s2 xs order work out a w o right least most fit two room E.
-      encoding right (asked s2 (length xs) order (length work) right least most two room) fit E;
-  writing = λ j work out a w o fits W. writing fits W;
-}
+-- what is not refused before a stream is looked for has tables that are right
+pub given-kept : (s2 : List ℕ) (count order work : ℕ) → askedRefusal s2 count order work ≡ 0 → givenRight s2 ≡ true
+unfolding askedRefusal
+given-kept s2 count order work e =
+    let from11 = unless (workRight s2 count work) 11 0 in
+    kept-first (givenRight s2) 6 from11 (kept-first (askedRight count order) 16 (unless (givenRight s2) 7 from11) e .1) .0

@@ -1,5 +1,5 @@
 -- Rules in a row: the smallest that is broken, and that none is. Assumes nothing.
-use Prim.Native.Nat.{ℕ, zero, suc, _+_}
+use Prim.Native.Nat.{ℕ, suc, _+_}
 use mathlib.Core.Path.{_≡_, refl}
 use mathlib.Core.Bool.{Bool, true, false, cond}
 use mathlib.Core.List.{List, [], _∷_, _++_}
@@ -9,7 +9,7 @@ use lib.Dec.{eqb}
 use borrow.Author.Tests.{ne-eqb}
 use lib.ListN.{length}
 use Rattle.tables.specs.Structures.{every}
-use Rattle.answers.specs.Demands.{firstBroken, AllKept}
+use Rattle.answers.specs.Demands.{firstBroken, allKept, AllKept}
 
 pub unlike : {X : Type 0} → false ≡ true → X
 unlike h = absurd (let z : _≡_ {A = ℕ} 0 1 = cc in omega arith)
@@ -35,3 +35,10 @@ unfolding firstBroken
 broken-behind [] later n m e = let f : suc n ≡ m = omega arith in rw f
 broken-behind (true ∷ rules) later n m e = broken-behind rules later (suc n) m (omega arith)
 broken-behind (false ∷ rules) later n m e = rw (ne-eqb (suc n) 0 (omega arith))
+
+-- that none is broken is that all are kept
+pub broken-kept : (rules : List Bool) (n : ℕ) → eqb (firstBroken (suc n) rules) 0 ≡ allKept rules
+unfolding firstBroken every
+broken-kept [] n = refl
+broken-kept (true ∷ rules) n = broken-kept rules (suc n)
+broken-kept (false ∷ rules) n = ne-eqb (suc n) 0 (omega arith)

@@ -1,7 +1,10 @@
 pub mod Laws
 pub mod Identifiers
+pub mod Faults
 pub mod Refusals
-pub mod Acceptance
 pub mod Fewest
+pub mod Acceptance
+pub mod Written
+pub mod Shortest
 pub mod Outcomes
 pub mod Examples

@@ -1,37 +1,40 @@
 -- The first demand: a refusal is one number, given exactly when its rule says; it shows nothing and changes no lent element. Assumes nothing.
-use Prim.Native.Nat.{ℕ, zero, suc, _+_, _-_, _≤_}
+use Prim.Native.Nat.{ℕ, zero, suc, _-_, _*_}
 use mathlib.Core.Path.{_≡_, refl, sym, ap, _∙_}
-use mathlib.Core.Bool.{Bool, true, false, _&&_, cond}
-use mathlib.Core.List.{List, [], _∷_, _++_}
+use mathlib.Core.Bool.{Bool, true, false, not, _&&_, cond}
+use mathlib.Core.List.{List, [], _∷_}
 use mathlib.Core.Logic.{_⊎_, inl, inr}
 use mathlib.Core.Option.{Option, none, some}
 use native.Mathlib.Omega.{arith}
-use lib.Dec.{eqb}
-use borrow.Author.Tests.{eq-eqb, ne-eqb}
+use lib.Dec.{leb, eqb}
+use borrow.Author.Tests.{eqb-true, eq-eqb, ne-eqb}
 use lib.IntN.{ℤ, pos}
-use lib.ListN.{length, drop, replicate}
-use Rattle.wire.specs.Numbers.{part}
+use lib.ListN.{length, replicate}
+use Rattle.wire.specs.Rules.{unless}
 use Rattle.header.specs.declared.Step.{Step}
-use Rattle.header.specs.declared.Step.the-variants.{Found, End}
+use Rattle.header.specs.declared.Step.the-variants.{End}
 use Rattle.header.specs.Fields.{fieldsFrom, withTag, occurring}
-use Rattle.pointers.specs.Pointers.{dataAt, startOf, sectionOf, pointersFrom}
+use Rattle.header.specs.Header.{section1Right}
+use Rattle.pointers.specs.Pointers.{dataAt, startOf, lengthOf, sectionOf, pointersFrom}
 use Rattle.record.specs.Opening.{openRefusal, opens, openCount, openNumbers}
 use Rattle.fields.specs.declared.Place.{Place}
 use Rattle.fields.specs.declared.Place.the-variants.{At, Refused}
-use Rattle.fields.specs.Lookup.{fieldPlace, placeFound, refusalOf, partBytes}
+use Rattle.fields.specs.Lookup.{fieldPlace, walkPlace, refusalOf, partBytes}
 use Rattle.fields.proofs.Laws.{place-opened, place-refused}
+use Rattle.tables.specs.Structures.{every}
 use Rattle.samples.specs.Trace.{Trace, rebuilt, fault}
 use Rattle.rules.specs.Rules.{hasBeat, tablesRight, leadsRight, agrees, hasLead, leadRefusal}
 use Rattle.leads.specs.Leads.{traceAt, roomRight, readRefusal, readTrace}
-use Rattle.leads.specs.Answers.{leadOf, leadAnswer, outAfter, workAfter, entryOf, entryAnswer}
+use Rattle.leads.specs.Answers.{leadOf, leadAnswer, outAfter, workAfter, entryOf}
 use Rattle.encode.specs.declared.Coded.{Coded}
 use Rattle.encode.specs.Encoding as E
 use Rattle.encode.specs.Encoding.{Encoded}
 use Rattle.compose.specs.declared.Written.{Written}
 use Rattle.compose.specs.Writing as C
 use Rattle.compose.specs.Writing.{Job, Wrote}
-use Rattle.answers.specs.Demands.{firstBroken, AllKept, rowsOpened, rowsLead, rowsRead, noLead, noEntry, noStream, noRecord, Cleared, Demand1}
-use Rattle.answers.proofs.Laws.{none-broken, kept-or-broken, broken-behind}
+use Rattle.answers.specs.Demands.{firstBroken, firstOf, allKept, AllKept, rowsOpened, rowsLead, rowsRead, rowsAsked, rowsJob, noLead, noEntry, noStream, noRecord, Demand1}
+use Rattle.answers.proofs.Faults.{fault-number}
+use Rattle.answers.proofs.Laws.{none-broken, kept-or-broken, broken-behind, broken-kept}
 
 -- ---- the smallest row that is broken
 
@@ -74,10 +77,19 @@ no-field : (r : List ℕ) (tag n : ℕ) → AllKept (rowsOpened r) → occurring
 unfolding fieldPlace
 no-field r tag n kept e = ap refusalOf (place-opened r _ (Refused (openRefusal r)) (opened r kept)) ∙ rw e
 
--- a place that is refused has no bytes
-not-shown : (r : List ℕ) (n : ℕ) (p : Place) → refusalOf p ≡ suc n → partBytes r p ≡ []
+-- a place that is refused is a refusal and has no bytes
+not-shown : (r : List ℕ) (n : ℕ) (p : Place) → refusalOf p ≡ suc n → (p ≡ Refused (suc n)) × (partBytes r p ≡ [])
 not-shown r n (At start size) h = absurd (omega arith)
-not-shown r n (Refused number) h = refl
+not-shown r n (Refused number) h = (ap Refused h, refl)
+
+-- a walk starts as opening goes
+walk : (r : List ℕ) → refusalOf (walkPlace r) ≡ firstBroken 1 (rowsOpened r)
+unfolding walkPlace opens
+walk r = go (eqb (openRefusal r) 0) refl ∙ opening r
+  where
+    go : (b : Bool) → eqb (openRefusal r) 0 ≡ b → refusalOf (cond b (At (startOf r 1) (lengthOf r 1)) (Refused (openRefusal r))) ≡ openRefusal r
+    go true e = sym (eqb-true (openRefusal r) 0 e)
+    go false e = refl
 
 -- ---- a lead and its entry
 
@@ -113,23 +125,61 @@ not-read : (r : List ℕ) (k n : ℕ) (t : Trace) (out : List ℤ) → leadOf r 
 not-read r k n (rebuilt xs) out h = absurd (omega arith)
 not-read r k n (fault number) out h = (ap noLead h, refl)
 
-work-read : (r : List ℕ) (place room : ℕ) (work : List ℤ) → Cleared (pos 0) work (workAfter r place room work)
+work-read : (r : List ℕ) (place room : ℕ) (work : List ℤ)
+    → workAfter r place room work ≡ cond (allKept (rowsRead r place room (length work)) && hasBeat r) (replicate (length work) (pos 0)) work
 unfolding workAfter
-work-read r place room work = go (eqb (readRefusal r place room (length work)) 0 && hasBeat r)
-  where
-    go : (b : Bool) → Cleared (pos 0) work (cond b (replicate (length work) (pos 0)) work)
-    go true = inr refl
-    go false = inl refl
+work-read r place room work =
+    let rows = rowsRead r place room (length work) in
+    let kept : eqb (readRefusal r place room (length work)) 0 ≡ allKept rows =
+    ap (λ (n : ℕ). eqb n 0) (reading r place room (length work)) ∙ broken-kept rows 0 in
+    ap (λ (b : Bool). cond (b && hasBeat r) (replicate (length work) (pos 0)) work) kept
 
 -- ---- writing
 
-work-searched : (s2 work : List ℕ) → Cleared 0 work (E.workAfter s2 work)
+-- rules in the order in which they are asked: refused by none exactly if all are kept
+asked-kept : (a b c : Bool) → eqb (unless a 17 (unless b 7 (unless c 11 0))) 0 ≡ allKept (a ∷ b ∷ c ∷ [])
+unfolding every
+asked-kept false b c = refl
+asked-kept true false c = refl
+asked-kept true true false = refl
+asked-kept true true true = refl
+
+job-kept : (a b c d : Bool) → eqb (unless a 17 (unless b 6 (unless c 7 (unless d 11 0)))) 0 ≡ allKept (a ∷ b ∷ c ∷ d ∷ [])
+unfolding every
+job-kept false b c d = refl
+job-kept true false c d = refl
+job-kept true true false d = refl
+job-kept true true true false = refl
+job-kept true true true true = refl
+
+coding-kept : (s2 : List ℕ) (count order work : ℕ) → allKept (rowsAsked s2 count order work) ≡ eqb (E.askedRefusal s2 count order work) 0
+unfolding E.askedRefusal
+coding-kept s2 count order work = sym (asked-kept (E.askedRight count order) (E.givenRight s2) (E.workRight s2 count work))
+
+pub writing-kept : (j : Job) (work : ℕ) → allKept (rowsJob j work) ≡ eqb (C.jobRefusal j work) 0
+unfolding C.jobRefusal
+writing-kept j work =
+    sym (job-kept (C.jobRight j) (section1Right 0 (j .section1) 0) (E.givenRight (j .section2))
+    (leb (C.longest (j .counts) * length (E.tablesGiven (j .section2))) work))
+
+-- the first of them that is broken
+coding-first : (s2 : List ℕ) (count order work : ℕ)
+    → E.askedRefusal s2 count order work ≡ firstOf (17 ∷ 7 ∷ 11 ∷ []) (rowsAsked s2 count order work)
+unfolding E.askedRefusal firstOf
+coding-first s2 count order work = refl
+
+writing-first : (j : Job) (work : ℕ) → C.jobRefusal j work ≡ firstOf (17 ∷ 6 ∷ 7 ∷ 11 ∷ []) (rowsJob j work)
+unfolding C.jobRefusal firstOf
+writing-first j work = refl
+
+-- work space where a refusal n of these is the answer, or none
+work-after : (s2 work : List ℕ) → E.workAfter s2 work ≡ cond (true && not (eqb (length s2) 0)) (replicate (length work) 0) work
 unfolding E.workAfter
-work-searched s2 work = go (eqb (length s2) 0)
+work-after s2 work = go (eqb (length s2) 0)
   where
-    go : (b : Bool) → Cleared 0 work (cond b work (replicate (length work) 0))
-    go true = inl refl
-    go false = inr refl
+    go : (b : Bool) → cond b work (replicate (length work) 0) ≡ cond (not b) (replicate (length work) 0) work
+    go true = refl
+    go false = refl
 
 not-coded : (m n : ℕ) (found : Option (List ℕ)) (out : List ℕ) → E.codedAs m found .refusal ≡ suc n
     → (E.codedAs m found ≡ noStream (suc n)) × (E.outAs m found out ≡ out)
@@ -148,9 +198,20 @@ encode-refused : {s2 : List ℕ} {xs : List ℤ} {order : ℕ} {work out : List 
 encode-refused {out = out} n (E.refused m e) h = not-coded (suc m) n none out h
 encode-refused {out = out} n (E.searched found e F) h = not-coded (E.foundRefusal (length out) found) n found out h
 
-encode-work : {s2 : List ℕ} {xs : List ℤ} {order : ℕ} {work out : List ℕ} {a : Coded} {w o : List ℕ} → Encoded s2 xs order work out a w o → Cleared 0 work w
-encode-work (E.refused n e) = inl refl
-encode-work {s2 = s2} {work = work} (E.searched found e F) = work-searched s2 work
+encode-work : {s2 : List ℕ} {xs : List ℤ} {order : ℕ} {work out : List ℕ} {a : Coded} {w o : List ℕ} → Encoded s2 xs order work out a w o
+    → w ≡ cond (allKept (rowsAsked s2 (length xs) order (length work)) && not (eqb (length s2) 0)) (replicate (length work) 0) work
+encode-work {s2 = s2} {xs = xs} {order = order} {work = work} (E.refused n e) =
+    rw (coding-kept s2 (length xs) order (length work), e, ne-eqb (suc n) 0 (omega arith))
+encode-work {s2 = s2} {xs = xs} {order = order} {work = work} (E.searched found e F) =
+    rw (coding-kept s2 (length xs) order (length work), e) (work-after s2 work)
+
+encode-asked : {s2 : List ℕ} {xs : List ℤ} {order : ℕ} {work out : List ℕ} {a : Coded} {w o : List ℕ} → Encoded s2 xs order work out a w o
+    → AllKept (rowsAsked s2 (length xs) order (length work))
+    ⊎ (a .refusal ≡ firstOf (17 ∷ 7 ∷ 11 ∷ []) (rowsAsked s2 (length xs) order (length work)))
+encode-asked {s2 = s2} {xs = xs} {order = order} {work = work} (E.refused n e) =
+    inr (sym e ∙ coding-first s2 (length xs) order (length work))
+encode-asked {s2 = s2} {xs = xs} {order = order} {work = work} (E.searched found e F) =
+    inl (coding-kept s2 (length xs) order (length work) ∙ rw e)
 
 write-refused : {j : Job} {work out : List ℕ} {a : Written} {w o : List ℕ} (n : ℕ) → Wrote j work out a w o → a .refusal ≡ suc n
     → (a ≡ noRecord (suc n)) × (o ≡ out)
@@ -158,27 +219,37 @@ write-refused {j = j} {out = out} n (C.refused m e) h = not-written j (suc m) n 
 write-refused {j = j} {out = out} n (C.searched founds e F) h =
     not-written j (C.foundRefusal j (length out) (C.streamsOf founds)) n (C.streamsOf founds) out h
 
-write-work : {j : Job} {work out : List ℕ} {a : Written} {w o : List ℕ} → Wrote j work out a w o → Cleared 0 work w
-write-work (C.refused n e) = inl refl
-write-work {j = j} {work = work} (C.searched founds e F) = work-searched (j .section2) work
+write-work : {j : Job} {work out : List ℕ} {a : Written} {w o : List ℕ} → Wrote j work out a w o
+    → w ≡ cond (allKept (rowsJob j (length work)) && not (eqb (length (j .section2)) 0)) (replicate (length work) 0) work
+write-work {j = j} {work = work} (C.refused n e) = rw (writing-kept j (length work), e, ne-eqb (suc n) 0 (omega arith))
+write-work {j = j} {work = work} (C.searched founds e F) = rw (writing-kept j (length work), e) (work-after (j .section2) work)
+
+write-asked : {j : Job} {work out : List ℕ} {a : Written} {w o : List ℕ} → Wrote j work out a w o
+    → AllKept (rowsJob j (length work)) ⊎ (a .refusal ≡ firstOf (17 ∷ 6 ∷ 7 ∷ 11 ∷ []) (rowsJob j (length work)))
+write-asked {j = j} {work = work} (C.refused n e) = inr (sym e ∙ writing-first j (length work))
+write-asked {j = j} {work = work} (C.searched founds e F) = inl (writing-kept j (length work) ∙ rw e)
 
 -- ---- the demand
 
 pub demand1 : Demand1
 demand1 = record {
   opening = opening;
+  walk = walk;
   field = field;
   no-field = no-field;
   entry = λ r place. entry-refusal r (place - 1) (leadRefusal r place) ∙ lead r place;
   reading = read;
-  streams = λ r place room work n kept e. rw (streamed r place room work kept, e);
+  streams = λ r place room work n kept e. (rw (streamed r place room work kept, e), fault-number r (place - 1) n e);
+  coding = λ s2 xs order work out a w o e. encode-asked e;
+  writing = λ j work out a w o f. write-asked f;
   not-opened = not-opened;
+  not-walked = λ r n e. not-shown r n (walkPlace r) e .0;
   not-shown = λ r tag k n. not-shown r n (fieldPlace r tag k);
   not-entered = λ r place n. not-entered r (place - 1) (leadRefusal r place) n;
   not-read = λ r place n room work out. not-read r (place - 1) n (readTrace r place room work) out;
-  not-coded = λ s2 xs order work out a w o n E. encode-refused n E;
-  not-written = λ j work out a w o n W. write-refused n W;
+  not-coded = λ s2 xs order work out a w o n e. encode-refused n e;
+  not-written = λ j work out a w o n f. write-refused n f;
   work-read = work-read;
-  work-coded = λ s2 xs order work out a w o E. encode-work E;
-  work-written = λ j work out a w o W. write-work W;
+  work-coded = λ s2 xs order work out a w o e. encode-work e;
+  work-written = λ j work out a w o f. write-work f;
 }

@@ -99,7 +99,7 @@ pub record Examples : Type 0 where
   pub p7-table : readMany 2 (tablesIn twoTables 0) 1 (bitsIn (224 ∷ 120 ∷ 60 ∷ [])) ≡ values (pos 15 ∷ pos 15 ∷ []) (2 ∷ 2 ∷ []) 2
   -- P8: N by the beat's length in ms and the interval in µs
   pub p8 : beatSamples 1000 2000 ≡ 500
-  -- P9: the third value stored, and the refusal, by any tables that are right or by none, whatever room there is
+  -- P9: the third value stored, and the refusal, by any tables that are right or by none, with work space enough and whatever the output
   pub p9-values : differences 2 samplesP9 ≡ negsuc 32767 ∷ pos 32767 ∷ negsuc 131069 ∷ []
   pub p9 : (s2 work out : List ℕ) (a : Coded) (w o : List ℕ) → givenRight s2 ≡ true → 3 * length (tablesGiven s2) ≤ length work
       → Encoded s2 samplesP9 2 work out a w o → a .refusal ≡ 15

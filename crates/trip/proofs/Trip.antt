@@ -9,6 +9,7 @@ use native.Mathlib.Omega.{arith}
 use borrow.Author.Tests.{le-leb, lt-leb, eq-eqb}
 use lib.Dec.{leb, eqb}
 use lib.ListN.{length, getD}
+use Rattle.wire.specs.Numbers.{part}
 use Rattle.header.specs.declared.Step.{Step}
 use Rattle.header.specs.declared.Step.the-variants.{Found, End}
 use Rattle.header.specs.Fields.{fieldsFrom, withTag, occurring}
@@ -20,7 +21,7 @@ use Rattle.fields.specs.Lookup.{placeFound, fieldPlace}
 use Rattle.fields.proofs.Laws.{place-opened}
 use Rattle.tables.specs.Section2.{tablesIn, section2Right}
 use Rattle.entries.specs.Leads.{section3Right}
-use Rattle.entries.specs.Streams.{streamOf, section6Right}
+use Rattle.entries.specs.Streams.{streamBytes, streamOf, section6Right}
 use Rattle.rules.specs.Rules.{tablesRight, leadsOf, hasBeat, beatRight, rhythmRight, leadsRight, stepsAgree, agrees, hasLead, leadRefusal}
 use Rattle.samples.specs.Trace.{rebuilt}
 use Rattle.leads.specs.Leads.{tablesOf, streamTrace, countAt, residual, traceAt, roomRight, readRefusal, readTrace}
@@ -30,7 +31,7 @@ use Rattle.layout.specs.Layout.{evened, sizeFor, noLetters, leadsData, streamsD
 use Rattle.compose.specs.Writing.{Job, jobRight, cut, FoundAll, streamsOf, allShort, recordOf}
 use Rattle.trip.specs.GivenBack.{JobBytes, GivenBack, bytesOfStep, bytesAtPlace, behindHeader, samplesOf}
 use Rattle.trip.proofs.Traces.{stream-back}
-use Rattle.trip.proofs.Places.{Stands, stands-cut, stands-inner}
+use Rattle.trip.proofs.Places.{Stands, stands-part, stands-cut, stands-inner}
 use Rattle.trip.proofs.Sections.{headOf, section-headed, length-head, headed-data}
 use Rattle.trip.proofs.Header.{movedStep, fields-moved, mark-kept, occurring-there}
 use Rattle.trip.proofs.Tables.{tables-there, section2-moved, given-right}
@@ -66,6 +67,13 @@ module _ (r : List ℕ) (v : ℕ) (d : List ℕ) (opened : openRefusal r ≡ 0) 
           let a : 142 + (16 + f .start) ≡ 158 + f .start = omega arith in
           let b : 158 + f .start + (16 + f .end - (16 + f .start)) ≡ 158 + f .end = omega (arith, w .order) in
           rw (a, b) (ap some (stands-cut data-there (f .start) (f .end) (w .order) (w .end)))
+
+  -- Section 1's data are those given
+  section1-there : part (sectionOf r 1) 16 (16 + length d) ≡ d
+  section1-there =
+      let h = headOf 1 v noLetters d in
+      let head = length-head 1 v noLetters d refl in
+      rw (placed-section p) (stands-part (headed-data h head d))
 
   -- and a walk meets the fields in their order
   walk-there : fieldsFrom (sectionOf r 1) 16 ≡ map behindHeader (fieldsFrom d 0)
@@ -206,6 +214,11 @@ module _ (j : Job) (founds : List (Option (List ℕ))) (streams : List (List ℕ
       rw (eq-eqb (openRefusal r) 0 opened, tables-kept, leads-kept, agrees-kept, present3, present6, leads-there)
       (rw (lt-leb place n l, and-false (leb 1 place)))
 
+  no-other : (place room work : ℕ) → (place ≡ 0) ⊎ (n < place)
+      → (leadAnswer r place room work .refusal ≡ 10) × (entryAnswer r place .refusal ≡ 10)
+  unfolding readTrace readRefusal
+  no-other place room work h = rw (no-lead place h) (refl, refl)
+
   module _ (k : ℕ) (there : k < n) where
     lead-there : hasLead r (k + 1) ≡ true
     unfolding hasLead
@@ -215,13 +228,35 @@ module _ (j : Job) (founds : List (Option (List ℕ))) (streams : List (List ℕ
     unfolding leadRefusal opens
     lead-accepted = rw (eq-eqb (openRefusal r) 0 opened, tables-kept, leads-kept, agrees-kept, lead-there)
 
-    entry-there : (entryAnswer r (k + 1) .refusal ≡ 0) × (entryAnswer r (k + 1) .leads ≡ n)
-        × (entryAnswer r (k + 1) .last ≡ getD (j .firsts) k 0 + getD (j .counts) k 0 - 1) × (entryAnswer r (k + 1) .order ≡ j .order)
+    entry-there : entryAnswer r (k + 1)
+        ≡ record {
+          refusal = 0;
+          id = getD (j .ids) k 0;
+          flags = j .flags - j .flags % 2;
+          order = j .order;
+          step = j .step;
+          interval = j .interval;
+          first = getD (j .firsts) k 0;
+          last = getD (j .firsts) k 0 + getD (j .counts) k 0 - 1;
+          leads = n;
+          bytes = streamBytes (sectionOf r 6) k;
+        }
     entry-there =
         let e : k + 1 - 1 ≡ k = omega arith in
-        let o = S.streams-order h6 six6 (j .step) (j .interval) (j .order) streams short rooms in
-        let l = E.lead-last h3 six3 (j .flags) (j .firsts) (j .counts) (j .ids) (right .firsts) (right .ids) (right .leads) k there in
-        rw (lead-accepted, e, leads-there, section3, section6, o, l) (refl, refl, refl, refl)
+        rw (
+          lead-accepted,
+          e,
+          leads-there,
+          section3,
+          section6,
+          E.lead-id h3 six3 (j .flags) (j .firsts) (j .counts) (j .ids) (right .firsts) (right .ids) (right .leads) k there,
+          E.leads-flags h3 six3 (j .flags) (j .firsts) (j .counts) (j .ids) (right .firsts) (right .ids) (right .leads),
+          S.streams-order h6 six6 (j .step) (j .interval) (j .order) streams short rooms,
+          S.streams-step h6 six6 (j .step) (j .interval) (j .order) streams short rooms,
+          S.streams-interval h6 six6 (j .step) (j .interval) (j .order) streams short rooms,
+          E.lead-first h3 six3 (j .flags) (j .firsts) (j .counts) (j .ids) (right .firsts) (right .ids) (right .leads) k there,
+          E.lead-last h3 six3 (j .flags) (j .firsts) (j .counts) (j .ids) (right .firsts) (right .ids) (right .leads) k there,
+        )
 
     count-there : countAt r k ≡ getD (j .counts) k 0
     count-there =
@@ -296,12 +331,13 @@ given-back j founds streams bytes asked one two found made short small =
     let placed = O.section1-placed (j .version) (j .section1) (j .section2) three six small in
     record {
       opened = accepted;
+      section1 = section1-there r (j .version) (j .section1) accepted placed one;
       walked = walk-there r (j .version) (j .section1) accepted placed one;
       fields = field-shown r (j .version) (j .section1) accepted placed one;
       samples = λ k room work there enough.
           lead-read j founds streams bytes asked one two found made short small k there room work enough;
       answers = λ k room work there enough.
           lead-answered j founds streams bytes asked one two found made short small k there room work enough;
-      entries = λ k there. entry-there j founds streams bytes asked one two found made short small k there;
-      no-other = no-lead j founds streams bytes asked one two found made short small;
+      entries = λ k there. (streamBytes (sectionOf r 6) k, entry-there j founds streams bytes asked one two found made short small k there);
+      no-other = no-other j founds streams bytes asked one two found made short small;
     }

@@ -21,7 +21,6 @@ use Rattle.fields.specs.declared.Place.the-variants.{At, Refused}
 use Rattle.fields.specs.Lookup.{fieldPlace}
 use Rattle.tables.specs.Structures.{every}
 use Rattle.samples.specs.Trace.{rebuilt, fits16}
-use Rattle.rules.specs.Rules.{leadRefusal}
 use Rattle.leads.specs.Leads.{readTrace}
 use Rattle.leads.specs.Answers.{leadAnswer, entryAnswer}
 use Rattle.compose.specs.Writing.{Job, cut}
@@ -53,7 +52,8 @@ pub record JobBytes (j : Job) : Type 0 where
 pub record GivenBack (j : Job) (r : List ℕ) : Type 0 where
   -- the record opens
   pub opened : openRefusal r ≡ 0
-  -- a walk meets the same fields in the same order, and each is shown as it was given
+  -- Section 1's data are those given; a walk meets the same fields in the same order, and each is shown as it was given
+  pub section1 : part (sectionOf r 1) dataAt (dataAt + length (j .section1)) ≡ j .section1
   pub walked : fieldsFrom (sectionOf r 1) dataAt ≡ map behindHeader (fieldsFrom (j .section1) 0)
   pub fields : (tag n : ℕ) → bytesAtPlace r (fieldPlace r tag n) ≡ bytesOfStep (j .section1) (occurring n (withTag tag (fieldsFrom (j .section1) 0)))
   -- every lead's samples, with room for them and any work space, and what is answered beside them
@@ -69,9 +69,21 @@ pub record GivenBack (j : Job) (r : List ℕ) : Type 0 where
         first = getD (j .firsts) k 0;
         count = getD (j .counts) k 0;
       }
-  -- its entry too says what the job does
-  pub entries : (k : ℕ) → k < length (j .counts)
-      → (entryAnswer r (k + 1) .refusal ≡ 0) × (entryAnswer r (k + 1) .leads ≡ length (j .counts))
-      × (entryAnswer r (k + 1) .last ≡ getD (j .firsts) k 0 + getD (j .counts) k 0 - 1) × (entryAnswer r (k + 1) .order ≡ j .order)
+  -- its entry too says what the job does, beside the bytes of its stream
+  pub entries : (k : ℕ) → k < length (j .counts) → (bytes : ℕ)
+      × (entryAnswer r (k + 1)
+      ≡ record {
+        refusal = 0;
+        id = getD (j .ids) k 0;
+        flags = j .flags - j .flags % 2;
+        order = j .order;
+        step = j .step;
+        interval = j .interval;
+        first = getD (j .firsts) k 0;
+        last = getD (j .firsts) k 0 + getD (j .counts) k 0 - 1;
+        leads = length (j .counts);
+        bytes = bytes;
+      })
   -- at any other place there is no lead
-  pub no-other : (place : ℕ) → (place ≡ 0) ⊎ (length (j .counts) < place) → leadRefusal r place ≡ 10
+  pub no-other : (place room work : ℕ) → (place ≡ 0) ⊎ (length (j .counts) < place)
+      → (leadAnswer r place room work .refusal ≡ 10) × (entryAnswer r place .refusal ≡ 10)
