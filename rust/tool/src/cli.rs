@@ -2,7 +2,10 @@
 
 use std::path::PathBuf;
 
-use clap::{Parser, Subcommand};
+use clap::{value_parser, Parser, Subcommand};
+use clap_complete::Shell;
+
+use crate::rules;
 
 /// What every command's help ends with.
 const STATUS: &str = "\
@@ -37,15 +40,31 @@ Records are judged by a library that is proved correct. A record is accepted
 or it is refused, with the number of the rule that it breaks, the smallest if
 there are several, and with nothing of it shown.";
 
+/// The version of the tool, and what was proved: the commit and the kit.
+const VERSION: &str = concat!(
+    env!("CARGO_PKG_VERSION"),
+    " (commit ",
+    env!("TIGMAVRESH_COMMIT"),
+    ", ",
+    env!("TIGMAVRESH_KIT"),
+    ")"
+);
+
+/// The most files that are checked at once.
+const JOBS_MAX: i64 = 1024;
+
 /// The command line.
 #[derive(Parser)]
-#[command(name = "tigmavresh", version, about = ABOUT, after_help = STATUS)]
-#[command(subcommand_required = true, arg_required_else_help = true)]
+#[command(name = "tigmavresh", version = VERSION, about = ABOUT, after_help = STATUS)]
+#[command(arg_required_else_help = true, args_conflicts_with_subcommands = true)]
 #[command(disable_help_subcommand = true)]
 pub struct Cli {
+    /// Say what refusal N means, in plain words and with an example
+    #[arg(long, value_name = "N", value_parser = value_parser!(u8).range(1..=rules::COUNT))]
+    pub explain: Option<u8>,
     /// What is to be done.
     #[command(subcommand)]
-    pub command: Command,
+    pub command: Option<Command>,
 }
 
 /// What the tool can do.
@@ -116,6 +135,52 @@ pub enum Command {
         #[arg(long)]
         json: bool,
     },
+    /// Check many records: a line for each
+    ///
+    /// A record is accepted if it opens and every lead of it is read. One with neither
+    /// Section 3 nor Section 6 has no lead to be read: it is accepted if it opens and
+    /// its code tables, if it has any, keep their rule. Of any other: the refusal, the
+    /// smallest of opening or else that of the first lead that is refused, with what
+    /// its rule asks and the first thing found; report shows all of it. At the end:
+    /// how many files were refused with each number.
+    ///
+    /// Of a folder every regular file is taken, whatever its name is, and every folder
+    /// in it, in the order of their names. A link is followed if it is given as PATH,
+    /// and passed over in a folder. Lines come in the order of the files, however many
+    /// are checked at once. As JSON there is an object in each line, and the last one
+    /// is the summary.
+    #[command(verbatim_doc_comment, after_help = STATUS)]
+    Check {
+        /// The records, and folders of records; - is standard input
+        #[arg(value_name = "PATH", required = true)]
+        paths: Vec<PathBuf>,
+        /// Only those that are refused; the summary is of all
+        #[arg(long)]
+        refused: bool,
+        /// As JSON, an object in each line
+        #[arg(long)]
+        json: bool,
+        /// How many files are checked at once; as many as there are cores, if not said
+        #[arg(long, value_name = "N", value_parser = value_parser!(u16).range(1..=JOBS_MAX))]
+        jobs: Option<u16>,
+    },
+    /// Show every rule that a record breaks
+    ///
+    /// The rules of refusals 1 to 9 are asked one by one, not only down to the first
+    /// that is broken; then every lead is read, and its answer shown. What was found
+    /// is said of each that is broken.
+    ///
+    /// A rule is certain where those before it are kept. Of a record that breaks an
+    /// earlier one, the answer is a hint: bytes may stand elsewhere than it looks.
+    #[command(verbatim_doc_comment, after_help = STATUS)]
+    Report {
+        /// The record to report on
+        #[arg(value_name = "FILE")]
+        file: PathBuf,
+        /// As JSON
+        #[arg(long)]
+        json: bool,
+    },
     /// Pack a record's leads into their shortest streams
     ///
     /// The leads are coded again by the record's own tables and difference order, each
@@ -158,6 +223,20 @@ pub enum Command {
         /// Replace the file that is there
         #[arg(long)]
         force: bool,
+    },
+    /// Write the manual page, to be read by man
+    ///
+    /// For example: tigmavresh man >tigmavresh.1; man ./tigmavresh.1
+    #[command(verbatim_doc_comment, after_help = STATUS)]
+    Man,
+    /// Write a shell's completions of these commands
+    ///
+    /// For example, in bash: source <(tigmavresh completions bash)
+    #[command(verbatim_doc_comment, after_help = STATUS)]
+    Completions {
+        /// The shell
+        #[arg(value_name = "SHELL")]
+        shell: Shell,
     },
 }
 

@@ -3,7 +3,10 @@
 use std::fmt;
 use std::fs::File;
 use std::io::{self, Read};
+use std::mem;
 use std::path::Path;
+
+use crate::output::Output;
 
 /// The name that stands for standard input.
 const STANDARD_INPUT: &str = "-";
@@ -49,22 +52,33 @@ pub struct Reader {
 impl Reader {
     /// Reads a file, or standard input.
     pub fn read(&mut self, path: &Path) -> io::Result<Input> {
-        if is_standard(path) {
-            return self.read_standard();
-        }
-        let file = File::open(path)?;
-        let metadata = file.metadata()?;
-        read_from(file, metadata.is_file().then_some(metadata.len()))
+        self.claim(path)?;
+        read(path)
     }
 
-    /// Reads standard input, which holds one record: a second reading would find it empty.
-    fn read_standard(&mut self) -> io::Result<Input> {
-        if self.standard_read {
+    /// Claims standard input, if that is what a path names. It holds one record: a second reading would find it empty.
+    pub fn claim(&mut self, path: &Path) -> io::Result<()> {
+        if is_standard(path) && mem::replace(&mut self.standard_read, true) {
             return Err(io::Error::other("it was read already"));
         }
-        self.standard_read = true;
-        read_from(io::stdin().lock(), None)
+        Ok(())
     }
+}
+
+/// Reads a file, or standard input.
+pub fn read(path: &Path) -> io::Result<Input> {
+    if is_standard(path) {
+        return read_from(io::stdin().lock(), None);
+    }
+    let file = File::open(path)?;
+    let metadata = file.metadata()?;
+    read_from(file, metadata.is_file().then_some(metadata.len()))
+}
+
+/// Reads a file, or standard input; if it cannot be read, that is complained of.
+pub fn read_or_complain(path: &Path, output: &mut Output) -> Option<Input> {
+    let read = read(path);
+    read.map_err(|error| output.complain(path, &error)).ok()
 }
 
 /// Reads one byte more than the longest record has, at most: that is enough to see it refused. `known` is the length

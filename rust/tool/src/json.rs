@@ -1,5 +1,6 @@
 //! What is shown, as JSON.
 
+use std::collections::BTreeMap;
 use std::path::Path;
 
 use scp::{Entry, Refusal};
@@ -8,15 +9,35 @@ use serde_json::value::{to_raw_value, RawValue};
 
 use crate::input::{Input, Size};
 use crate::names;
+use crate::output::hex;
 use crate::refused;
+use crate::tally::Tally;
+use crate::verdict::Verdict;
+
+/// A file's name.
+#[derive(Serialize)]
+struct Name {
+    file: String,
+    /// Its bytes in hex, where they are no text.
+    #[serde(skip_serializing_if = "Option::is_none")]
+    file_bytes: Option<String>,
+}
+
+/// A file and how long it is.
+#[derive(Serialize)]
+pub struct Sized {
+    #[serde(flatten)]
+    name: Name,
+    /// Absent if it is not known.
+    #[serde(skip_serializing_if = "Option::is_none")]
+    bytes: Option<u64>,
+}
 
 /// A record: what it says of its leads, or its refusal.
 #[derive(Serialize)]
 pub struct Record {
-    file: String,
-    /// Absent if it is not known.
-    #[serde(skip_serializing_if = "Option::is_none")]
-    bytes: Option<u64>,
+    #[serde(flatten)]
+    file: Sized,
     refusal: Option<Refused>,
     #[serde(flatten)]
     rhythm: Option<Rhythm>,
@@ -66,10 +87,15 @@ pub struct Refused {
 impl Refused {
     /// A refusal with what was found, where the lead at a place was asked for.
     pub fn new(input: &Input, place: usize, refusal: Refusal) -> Refused {
+        Refused::with(refusal, refused::found(input, place, refusal))
+    }
+
+    /// A refusal with this that was found.
+    pub fn with(refusal: Refusal, found: Vec<String>) -> Refused {
         Refused {
             number: refusal.number(),
             rule: refusal.words(),
-            found: refused::found(input, place, refusal),
+            found,
         }
     }
 }
@@ -93,13 +119,13 @@ impl Lead {
 
     /// The same with its samples, or its refusal.
     pub fn with(mut self, read: Result<&[i16], Refused>) -> Lead {
-        match read {
-            Ok(samples) => {
-                self.refusal = Some(None);
-                self.samples = to_raw_value(samples).ok();
-            }
-            Err(refused) => self.refusal = Some(Some(refused)),
-        }
+        self.samples = read.as_ref().ok().and_then(|all| to_raw_value(all).ok());
+        self.answered(read.err())
+    }
+
+    /// The same with its refusal, or without one, its stream having been read.
+    pub fn answered(mut self, refusal: Option<Refused>) -> Lead {
+        self.refusal = Some(refusal);
         self
     }
 }
@@ -133,22 +159,152 @@ impl Record {
 
     fn new(file: &Path, input: &Input) -> Record {
         Record {
-            file: file.to_string_lossy().into_owned(),
-            bytes: match input.size {
-                Size::Exactly(bytes) => Some(bytes),
-                Size::Over(_) => None,
-            },
+            file: Sized::new(file, input.size),
             refusal: None,
             rhythm: None,
             note: None,
         }
     }
+}
 
-    /// The text, of several lines.
-    pub fn text(&self) -> String {
-        // Numbers, strings and lists of them: there is nothing that could fail.
-        serde_json::to_string_pretty(self).expect("a record can be told in JSON")
+impl Name {
+    fn new(file: &Path) -> Name {
+        Name {
+            file: file.to_string_lossy().into_owned(),
+            file_bytes: match file.to_str() {
+                Some(_) => None,
+                None => Some(hex(file.as_os_str().as_encoded_bytes())),
+            },
+        }
     }
+}
+
+impl Sized {
+    /// A file of this size.
+    pub fn new(file: &Path, size: Size) -> Sized {
+        Sized {
+            name: Name::new(file),
+            bytes: match size {
+                Size::Exactly(bytes) => Some(bytes),
+                Size::Over(_) => None,
+            },
+        }
+    }
+}
+
+/// A record that was checked: so many leads, or its refusal and, if it is of one lead, the place of that.
+#[derive(Serialize)]
+pub struct Checked {
+    #[serde(flatten)]
+    file: Sized,
+    refusal: Option<Refused>,
+    #[serde(skip_serializing_if = "Option::is_none")]
+    lead: Option<usize>,
+    #[serde(skip_serializing_if = "Option::is_none")]
+    lead_count: Option<usize>,
+}
+
+impl Checked {
+    /// A record with the verdict on it and what was found.
+    pub fn new(file: &Path, size: Size, verdict: Verdict, found: Vec<String>) -> Checked {
+        let (refusal, lead, lead_count) = match verdict {
+            Verdict::Accepted { leads } => (None, None, Some(leads)),
+            Verdict::Refused { refusal, lead } => (Some(Refused::with(refusal, found)), lead, None),
+        };
+        Checked {
+            file: Sized::new(file, size),
+            refusal,
+            lead,
+            lead_count,
+        }
+    }
+}
+
+/// All that was asked of a record: the verdict, each rule, each lead.
+#[derive(Serialize)]
+pub struct Report {
+    #[serde(flatten)]
+    pub verdict: Checked,
+    pub rules: Vec<Rule>,
+    pub leads: Vec<Lead>,
+    /// What is not certain, if something is not.
+    #[serde(skip_serializing_if = "Option::is_none")]
+    pub caution: Option<String>,
+    #[serde(skip_serializing_if = "Option::is_none")]
+    pub note: Option<&'static str>,
+}
+
+/// A rule that was asked alone.
+#[derive(Serialize)]
+pub struct Rule {
+    pub number: u8,
+    pub name: &'static str,
+    pub broken: bool,
+    /// Whether every rule before it is kept.
+    pub certain: bool,
+    pub found: Vec<String>,
+}
+
+/// A file that could not be read.
+#[derive(Serialize)]
+pub struct Unread {
+    #[serde(flatten)]
+    name: Name,
+    error: String,
+}
+
+impl Unread {
+    /// A file, and why it could not be read.
+    pub fn new(file: &Path, error: String) -> Unread {
+        Unread {
+            name: Name::new(file),
+            error,
+        }
+    }
+}
+
+/// How many files fared how, as the last line of many.
+#[derive(Serialize)]
+pub struct Summary {
+    summary: Counts,
+    #[serde(skip_serializing_if = "Option::is_none")]
+    note: Option<&'static str>,
+}
+
+#[derive(Serialize)]
+struct Counts {
+    files: usize,
+    accepted: usize,
+    refused: usize,
+    not_read: usize,
+    by_number: BTreeMap<u8, usize>,
+}
+
+impl Summary {
+    /// The summary of these.
+    pub fn new(tally: &Tally) -> Summary {
+        Summary {
+            summary: Counts {
+                files: tally.files(),
+                accepted: tally.accepted,
+                refused: tally.refused(),
+                not_read: tally.not_read,
+                by_number: tally.by_number().collect(),
+            },
+            note: (tally.refused() > 0).then_some(refused::NOTE),
+        }
+    }
+}
+
+/// What is told, in one line.
+pub fn line(told: &impl Serialize) -> String {
+    // Numbers, strings and lists of them: there is nothing that could fail.
+    serde_json::to_string(told).expect("it can be told in JSON")
+}
+
+/// What is told, in several lines.
+pub fn text(told: &impl Serialize) -> String {
+    serde_json::to_string_pretty(told).expect("it can be told in JSON")
 }
 
 /// How many bits of its stream a sample takes, in hundredths, rounded.

@@ -6,6 +6,7 @@
 mod cli;
 mod commands;
 mod explain;
+mod files;
 mod input;
 mod job;
 mod json;
@@ -13,32 +14,57 @@ mod making;
 mod names;
 mod output;
 mod refused;
+mod rules;
 mod status;
 mod store;
 mod table;
+mod tally;
+mod verdict;
 
 use std::process::ExitCode;
 
 use clap::Parser;
 
 use cli::{Cli, Command};
+use commands::check::Asked;
 use commands::samples::Form;
 use output::Output;
+use status::Status;
 
 fn main() -> ExitCode {
     let mut output = Output::standard();
-    let status = match Cli::parse().command {
-        Command::Open { files } => commands::open::run(&files, &mut output),
-        Command::Fields { file } => commands::fields::run(&file, &mut output),
-        Command::Leads { file, json } => commands::leads::run(&file, json, &mut output),
+    let asked = Cli::parse();
+    let status = match (asked.explain, asked.command) {
+        (Some(number), _) => rules::show(number, &mut output),
+        (None, Some(command)) => run(command, &mut output),
+        // the command line is not understood without either
+        (None, None) => Status::NotDone,
+    };
+    output.end(status).into()
+}
+
+/// Does what a command asks for.
+fn run(command: Command, output: &mut Output) -> Status {
+    match command {
+        Command::Open { files } => commands::open::run(&files, output),
+        Command::Fields { file } => commands::fields::run(&file, output),
+        Command::Leads { file, json } => commands::leads::run(&file, json, output),
         Command::Samples {
             file,
             lead,
             csv,
             json,
-        } => commands::samples::run(&file, lead, Form::of(csv, json), &mut output),
-        Command::Pack { file, out, force } => commands::pack::run(&file, &out, force, &mut output),
-        Command::Write { job, out, force } => commands::write::run(&job, &out, force, &mut output),
-    };
-    output.end(status).into()
+        } => commands::samples::run(&file, lead, Form::of(csv, json), output),
+        Command::Check {
+            paths,
+            refused,
+            json,
+            jobs,
+        } => commands::check::run(&paths, Asked { refused, json }, jobs, output),
+        Command::Report { file, json } => commands::report::run(&file, json, output),
+        Command::Pack { file, out, force } => commands::pack::run(&file, &out, force, output),
+        Command::Write { job, out, force } => commands::write::run(&job, &out, force, output),
+        Command::Man => commands::man::run(output),
+        Command::Completions { shell } => commands::completions::run(shell, output),
+    }
 }

@@ -32,22 +32,27 @@ impl Output {
         if self.began {
             self.line("");
         }
-        self.began = true;
     }
 
     /// Writes a line.
     pub fn line(&mut self, line: impl Display) {
-        self.attempt(|to| writeln!(to, "{line}"));
+        self.write(|to| writeln!(to, "{line}"));
     }
 
     /// Writes by a function that takes what it writes to.
     pub fn write(&mut self, write: impl FnOnce(&mut BufWriter<Stdout>) -> io::Result<()>) {
+        self.began = true;
         self.attempt(write);
+    }
+
+    /// Sends what was shown so far on its way.
+    pub fn flush(&mut self) {
+        self.attempt(Write::flush);
     }
 
     /// Says lines on standard error, below what was shown so far.
     pub fn remark(&mut self, lines: &[String]) {
-        self.attempt(Write::flush);
+        self.flush();
         for line in lines {
             complain(line);
         }
@@ -60,13 +65,12 @@ impl Output {
 
     /// Complains of a file on standard error, below what was shown so far.
     pub fn complain(&mut self, file: &Path, error: &io::Error) {
-        self.attempt(Write::flush);
-        complain(&format!("{}: {}", shown(file), reason(error)));
+        self.remark(&[format!("{}: {}", shown(file), reason(error))]);
     }
 
     /// Ends the output: the status is that of the work, unless it could not be shown.
     pub fn end(mut self, status: Status) -> Status {
-        self.attempt(Write::flush);
+        self.flush();
         match self.failed {
             Some(error) if error.kind() != ErrorKind::BrokenPipe => {
                 complain(&format!("standard output: {}", reason(&error)));
@@ -89,18 +93,20 @@ fn complain(line: &str) {
     let _ = writeln!(io::stderr(), "tigmavresh: {line}");
 }
 
-/// The name of a file as it is shown: one line, whatever characters it has.
+/// The name of a file as it is shown: one line, whatever characters it has, with the bytes that are no text in hex.
 pub fn shown(file: &Path) -> String {
     if input::is_standard(file) {
         return "standard input".to_string();
     }
     let mut name = String::new();
-    for letter in file.to_string_lossy().chars() {
-        if letter.is_control() {
-            name.extend(letter.escape_default());
-        } else {
-            name.push(letter);
+    for part in file.as_os_str().as_encoded_bytes().utf8_chunks() {
+        for letter in part.valid().chars() {
+            match letter.is_control() {
+                true => name.extend(letter.escape_default()),
+                false => name.push(letter),
+            }
         }
+        name.extend(part.invalid().iter().map(|byte| format!("\\x{byte:02X}")));
     }
     name
 }
@@ -111,6 +117,12 @@ pub fn shown_target(file: &Path) -> String {
         true => "standard output".to_string(),
         false => shown(file),
     }
+}
+
+/// Bytes as pairs of hex digits.
+pub fn hex(bytes: &[u8]) -> String {
+    let pairs: Vec<_> = bytes.iter().map(|byte| format!("{byte:02X}")).collect();
+    pairs.join(" ")
 }
 
 /// Why something failed, without the number that the system has for it.
@@ -124,7 +136,9 @@ pub fn reason(error: &io::Error) -> String {
 
 #[cfg(test)]
 mod tests {
+    use std::ffi::OsStr;
     use std::io;
+    use std::os::unix::ffi::OsStrExt;
     use std::path::Path;
 
     use super::{reason, shown};
@@ -135,6 +149,8 @@ mod tests {
         assert_eq!(shown(Path::new("a\n\u{1b}[1m.scp")), "a\\n\\u{1b}[1m.scp");
         assert_eq!(shown(Path::new("-")), "standard input");
         assert_eq!(shown(Path::new("./-")), "./-");
+        let latin = OsStr::from_bytes(b"M\xFCller\xC3.scp");
+        assert_eq!(shown(Path::new(latin)), "M\\xFCller\\xC3.scp");
     }
 
     #[test]

@@ -44,6 +44,13 @@ pub fn lines(input: &Input, place: usize, refusal: Refusal) -> Vec<String> {
 /// What the rule asks, and this that was found, in lines.
 pub fn told(refusal: Refusal, found: &[String]) -> Vec<String> {
     let mut lines = vec![format!("  rule   {}", refusal.words())];
+    lines.extend(found_lines(found));
+    lines
+}
+
+/// This that was found, in lines.
+pub fn found_lines(found: &[String]) -> Vec<String> {
+    let mut lines = Vec::new();
     let mut label = "found";
     for one in found.iter().take(FOUND_SHOWN) {
         lines.push(format!("  {label:5}  {one}"));
@@ -58,12 +65,7 @@ pub fn told(refusal: Refusal, found: &[String]) -> Vec<String> {
 
 /// All that was found.
 pub fn found(input: &Input, place: usize, refusal: Refusal) -> Vec<String> {
-    let looked = Looked {
-        record: &input.bytes,
-        size: input.size,
-        place,
-    };
-    explain::found(&looked, refusal)
+    explain::found(&Looked::at(input, place), refusal)
 }
 
 /// Says whose word a refusal is, and whose its explanation.

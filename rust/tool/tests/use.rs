@@ -1,21 +1,14 @@
 //! The tool in a user's hands: exit statuses, standard input, files that are none, pipes that close.
 
 mod common;
-#[path = "common/folder.rs"]
-mod folder;
 
 use std::ffi::OsStr;
 use std::fs::{self, File};
 use std::io::{BufRead, BufReader, Write};
 use std::process::Stdio;
 
-use common::{run, samples, tool, Ran};
-use folder::Folder;
-
-/// Runs the tool with these words and this standard input.
-fn run_with_input(words: &[&str], input: Stdio) -> Ran {
-    tool().args(words).stdin(input).output().unwrap().into()
-}
+use common::folder::Folder;
+use common::{run, run_with_input, samples, tool, Ran};
 
 fn sample(name: &str) -> File {
     File::open(samples().join(name)).unwrap()
@@ -23,13 +16,13 @@ fn sample(name: &str) -> File {
 
 #[test]
 fn standard_input_is_a_dash() {
-    let ran = run_with_input(&["open", "-"], sample("007.scp").into());
+    let ran = run_with_input(&["open", "-"], sample("007.scp"));
     assert_eq!(ran.status, 0);
     assert_eq!(
         ran.first_line(),
         "standard input: accepted (196 bytes; 12 pointers, 2 sections present)"
     );
-    let ran = run_with_input(&["fields", "-"], sample("refused-6.scp").into());
+    let ran = run_with_input(&["fields", "-"], sample("refused-6.scp"));
     assert_eq!(ran.status, 1);
     assert_eq!(
         ran.first_line(),
@@ -41,17 +34,19 @@ fn standard_input_is_a_dash() {
             "standard input: accepted (2 leads; flags 0x00, no reference beat was subtracted)",
         ),
         ("samples", "standard input: accepted (2 leads)"),
+        ("check", "standard input: accepted (372 bytes; 2 leads)"),
+        ("report", "standard input: accepted (372 bytes; 2 leads)"),
     ] {
-        let ran = run_with_input(&[command, "-"], sample("two-leads.scp").into());
+        let ran = run_with_input(&[command, "-"], sample("two-leads.scp"));
         assert_eq!((ran.status, ran.first_line()), (0, line));
     }
-    let ran = run_with_input(&["samples", "-", "--json"], sample("two-leads.scp").into());
+    let ran = run_with_input(&["samples", "-", "--json"], sample("two-leads.scp"));
     assert!(ran.out.contains("\"file\": \"-\""), "{}", ran.out);
 }
 
 #[test]
 fn standard_input_stands_among_files_once() {
-    let ran = run_with_input(&["open", "7.scp", "-", "-"], sample("007.scp").into());
+    let ran = run_with_input(&["open", "7.scp", "-", "-"], sample("007.scp"));
     assert_eq!(ran.status, 2);
     assert_eq!(ran.err, "tigmavresh: standard input: it was read already\n");
     assert!(ran
@@ -76,7 +71,7 @@ fn a_missing_file_does_not_stop_the_others() {
             .ends_with("\n\n3 files: 1 accepted, 1 refused, 1 not read\n"));
         assert!(!ran.out.starts_with('\n') && !ran.out.contains("\n\n\n"));
     }
-    for command in ["fields", "leads", "samples"] {
+    for command in ["fields", "leads", "samples", "report"] {
         let ran = run(&[command, "none.scp"]);
         assert_eq!((ran.status, ran.out.as_str()), (2, ""));
     }
@@ -84,7 +79,7 @@ fn a_missing_file_does_not_stop_the_others() {
 
 #[test]
 fn a_folder_is_no_file() {
-    for command in ["open", "fields", "leads", "samples"] {
+    for command in ["open", "fields", "leads", "samples", "report"] {
         let ran = run(&[command, "."]);
         assert_eq!(ran.status, 2);
         assert_eq!(ran.err, "tigmavresh: .: Is a directory\n");
@@ -96,7 +91,7 @@ fn a_folder_is_no_file() {
 fn an_empty_file_is_refused() {
     let folder = Folder::new("empty");
     let file = folder.file("empty.scp", b"");
-    for command in ["open", "fields", "leads", "samples"] {
+    for command in ["open", "fields", "leads", "samples", "report"] {
         let ran = run(&[command, &file]);
         assert_eq!(ran.status, 1);
         assert_eq!(
@@ -121,7 +116,7 @@ fn a_long_file_is_refused_with_its_size() {
         format!("{file}: refused, number 1 (8000000000 bytes)")
     );
 
-    let ran = run_with_input(&["open", "-"], File::open(&file).unwrap().into());
+    let ran = run_with_input(&["open", "-"], File::open(&file).unwrap());
     assert_eq!(ran.status, 1);
     assert_eq!(
         ran.first_line(),
@@ -204,6 +199,13 @@ fn an_answer_that_cannot_be_written_is_told() {
         &["samples", "beat.scp"],
         &["samples", "beat.scp", "--csv"],
         &["samples", "beat.scp", "--json"],
+        &["check", "."],
+        &["check", ".", "--json"],
+        &["report", "refused-1.scp"],
+        &["report", "refused-1.scp", "--json"],
+        &["--explain", "1"],
+        &["man"],
+        &["completions", "bash"],
     ] {
         let full = File::options().write(true).open("/dev/full").unwrap();
         let output = tool().args(words).stdout(full).output();
@@ -237,6 +239,12 @@ fn a_bad_command_line_is_told() {
         &["pack", "--json", "own-tables.scp", "a"],
         &["write", "job.json"],
         &["write", "--all", "job.json", "a"],
+        &["check"],
+        &["check", "--csv", "."],
+        &["report"],
+        &["report", "007.scp", "7.scp"],
+        &["man", "open"],
+        &["completions"],
     ] {
         let ran = run(words);
         assert_eq!((ran.status, ran.out.as_str()), (2, ""), "{words:?}");
@@ -271,8 +279,13 @@ fn help_says_all_of_it() {
         "fields ",
         "leads ",
         "samples ",
+        "check ",
+        "report ",
         "pack ",
         "write ",
+        "man ",
+        "completions ",
+        "--explain ",
         "Exit status:",
         "  0  ",
         "  1  ",
@@ -286,8 +299,12 @@ fn help_says_all_of_it() {
         ("fields", "FILE"),
         ("leads", "FILE"),
         ("samples", "FILE"),
+        ("check", "--jobs"),
+        ("report", "--json"),
         ("pack", "--force"),
         ("write", "--force"),
+        ("man", "manual page"),
+        ("completions", "SHELL"),
     ] {
         let ran = run(&[command, "--help"]);
         assert_eq!(ran.status, 0);

@@ -1,38 +1,16 @@
 //! `pack` and `write` in a user's hands: what they write, what they refuse, and that nothing is ever half there.
 
 mod common;
-#[path = "common/folder.rs"]
-mod folder;
 
 use std::fs::{self, File};
 use std::path::Path;
 use std::process::{Command, Stdio};
 
-use common::{run, samples, tool, Ran};
-use folder::Folder;
+use common::folder::Folder;
+use common::record::{put, seal, section};
+use common::{run, run_by_shell, run_on_terminal, sample, samples, tool, Ran};
 use judge::make::{self, Rng};
 use judge::Writing;
-
-impl Folder {
-    /// The path of a name in it, whether it is there or not.
-    fn path(&self, name: &str) -> String {
-        self.0.join(name).into_os_string().into_string().unwrap()
-    }
-
-    /// The names of all that is in it, hidden files as well.
-    fn names(&self) -> Vec<String> {
-        let entries = fs::read_dir(&self.0).unwrap();
-        let mut names: Vec<_> = entries
-            .map(|entry| entry.unwrap().file_name().into_string().unwrap())
-            .collect();
-        names.sort();
-        names
-    }
-}
-
-fn sample(name: &str) -> Vec<u8> {
-    fs::read(samples().join(name)).unwrap()
-}
 
 // ---- where a record is put
 
@@ -146,23 +124,13 @@ fn a_dash_is_standard_output() {
 
 #[test]
 fn a_record_does_not_go_to_a_terminal() {
-    let tool = tool();
-    let words = [tool.get_program()].into_iter().chain(tool.get_args());
-    let words: Vec<&str> = words.map(|word| word.to_str().unwrap()).collect();
-    let command = format!("{} write job.json -", words.join(" "));
-    let script = Command::new("script")
-        .args(["-qec", &command, "/dev/null"])
-        .current_dir(samples())
-        .stdin(Stdio::null())
-        .output();
-    match script {
-        Ok(output) => {
-            let ran = Ran::from(output);
-            assert_eq!(ran.status, 2, "{}", ran.out);
-            let told = "standard output: a record is not written to a terminal";
-            assert_eq!(ran.out.trim_end(), format!("tigmavresh: {told}"));
-        }
-        Err(error) => println!("there is no script(1) to make a terminal: {error}"),
+    for words in ["write job.json -", "pack own-tables.scp -"] {
+        let Some(ran) = run_on_terminal(words) else {
+            return;
+        };
+        assert_eq!(ran.status, 2, "{}", ran.out);
+        let told = "standard output: a record is not written to a terminal";
+        assert_eq!(ran.out.trim_end(), format!("tigmavresh: {told}"));
     }
 }
 
@@ -202,18 +170,11 @@ fn a_closed_pipe_is_told() {
 fn nothing_is_left_of_a_failure() {
     let folder = Folder::new("failure");
     folder.file("there.scp", b"mine");
-    let tool = tool();
+    let line = "trap '' XFSZ; ulimit -f 0; exec \"$@\"";
     for words in [["pack", "own-tables.scp"], ["write", "job.json"]] {
         for out in ["there.scp", "new.scp"] {
-            let mut command = Command::new("sh");
-            command
-                .args(["-c", "trap '' XFSZ; ulimit -f 0; exec \"$@\"", "sh"])
-                .arg(tool.get_program())
-                .args(tool.get_args())
-                .args(words)
-                .args([&folder.path(out), "--force"])
-                .current_dir(samples());
-            let ran = Ran::from(command.output().unwrap());
+            let out = folder.path(out);
+            let ran = run_by_shell(line, &[&words[..], &[&out, "--force"]].concat());
             assert_eq!((ran.status, ran.out.as_str()), (2, ""), "{}", ran.err);
             assert!(ran.err.ends_with("File too large\n"), "{}", ran.err);
             assert_eq!(folder.names(), ["there.scp"]);
@@ -277,34 +238,6 @@ fn a_refused_record_is_not_packed() {
 
 /// A change of a record, all checks to be made after it.
 type Change = fn(&mut Vec<u8>);
-
-/// Where a section starts.
-fn section(record: &[u8], id: usize) -> usize {
-    let at = 6 + 16 + 10 * id + 6;
-    u32::from_le_bytes([0, 1, 2, 3].map(|k| record[at + k])) as usize - 1
-}
-
-fn put(record: &mut [u8], at: usize, number: usize) {
-    record[at..at + 4].copy_from_slice(&(number as u32).to_le_bytes());
-}
-
-/// Makes the size field and all checks right.
-fn seal(record: &mut [u8]) {
-    let size = record.len();
-    put(record, 2, size);
-    let length = |record: &[u8], at| u32::from_le_bytes([0, 1, 2, 3].map(|k| record[at + k]));
-    let pointers = (length(record, 10) as usize - 16) / 10;
-    for id in (0..pointers).rev() {
-        let bytes = length(record, 24 + 10 * id) as usize;
-        if bytes != 0 {
-            let start = section(record, id);
-            let check = judge::crc(&record[start + 2..start + bytes]);
-            record[start..start + 2].copy_from_slice(&check.to_le_bytes());
-        }
-    }
-    let check = judge::crc(&record[2..]);
-    record[..2].copy_from_slice(&check.to_le_bytes());
-}
 
 /// Adds an empty Section 7 after all others.
 fn add_section_7(record: &mut Vec<u8>) {

@@ -4,9 +4,9 @@ use std::path::Path;
 
 use scp::Field;
 
-use crate::input::Reader;
+use crate::input::read_or_complain;
 use crate::names;
-use crate::output::{shown, Output};
+use crate::output::{hex, shown, Output};
 use crate::refused;
 use crate::status::Status;
 use crate::table::{self, numbers, words, Column};
@@ -24,12 +24,8 @@ const BYTES_A_LINE: usize = 16;
 
 /// Shows the fields of a file.
 pub fn run(file: &Path, output: &mut Output) -> Status {
-    let input = match Reader::default().read(file) {
-        Ok(input) => input,
-        Err(error) => {
-            output.complain(file, &error);
-            return Status::NotDone;
-        }
+    let Some(input) = read_or_complain(file, output) else {
+        return Status::NotDone;
     };
     output.block();
     match scp::fields(&input.bytes) {
@@ -77,12 +73,6 @@ fn rows(tag: u8, bytes: &[u8]) -> Vec<[String; 5]> {
     let empty = String::new;
     rows.extend(parts.map(|part| [empty(), empty(), empty(), hex(part), text(part)]));
     rows
-}
-
-/// Bytes as pairs of hex digits.
-fn hex(bytes: &[u8]) -> String {
-    let pairs: Vec<_> = bytes.iter().map(|byte| format!("{byte:02X}")).collect();
-    pairs.join(" ")
 }
 
 /// Whether bytes are text: printable ASCII, with NUL where a string ends.

@@ -4,7 +4,7 @@ use std::path::Path;
 
 use scp::{Entry, Refusal};
 
-use crate::input::{Input, Reader};
+use crate::input::{read_or_complain, Input};
 use crate::json::{self, bits_in_hundredths};
 use crate::names;
 use crate::output::{shown, Output};
@@ -27,12 +27,8 @@ const COLUMNS: [Column; 10] = [
 
 /// Shows the leads of a file, as a table or as JSON.
 pub fn run(file: &Path, json: bool, output: &mut Output) -> Status {
-    let input = match Reader::default().read(file) {
-        Ok(input) => input,
-        Err(error) => {
-            output.complain(file, &error);
-            return Status::NotDone;
-        }
+    let Some(input) = read_or_complain(file, output) else {
+        return Status::NotDone;
     };
     output.block();
     let leads = scp::leads(&input.bytes);
@@ -41,7 +37,7 @@ pub fn run(file: &Path, json: bool, output: &mut Output) -> Status {
         Err(_) => Status::Refused,
     };
     match (json, leads) {
-        (true, leads) => output.line(as_json(file, &input, leads).text()),
+        (true, leads) => output.line(json::text(&as_json(file, &input, leads))),
         (false, Ok(leads)) => show(file, &leads, output),
         (false, Err(refusal)) => {
             refused::show(file, &input, refusal, output);
@@ -83,6 +79,7 @@ fn show(file: &Path, leads: &[Entry], output: &mut Output) {
 /// So many leads, in words.
 pub fn how_many(leads: usize) -> String {
     match leads {
+        0 => "no lead".to_string(),
         1 => "1 lead".to_string(),
         leads => format!("{leads} leads"),
     }

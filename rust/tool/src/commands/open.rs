@@ -4,12 +4,13 @@ use std::path::{Path, PathBuf};
 
 use scp::Pointer;
 
-use crate::input::{Reader, Size};
+use crate::input::{Input, Reader, Size};
 use crate::names;
 use crate::output::{shown, Output};
 use crate::refused;
 use crate::status::Status;
 use crate::table::{self, numbers, words, Column};
+use crate::tally::Tally;
 
 const COLUMNS: [Column; 5] = [
     numbers("ID"),
@@ -22,36 +23,37 @@ const COLUMNS: [Column; 5] = [
 /// Opens each file and shows its pointers; the worst of all files is the status.
 pub fn run(files: &[PathBuf], output: &mut Output) -> Status {
     let mut reader = Reader::default();
-    let opened = files.iter().map(|file| open(file, &mut reader, output));
-    let statuses: Vec<Status> = opened.collect();
-    if statuses.contains(&Status::Refused) {
+    let mut tally = Tally::default();
+    for file in files {
+        match reader.read(file) {
+            Ok(input) => open(file, &input, &mut tally, output),
+            Err(error) => {
+                output.complain(file, &error);
+                tally.not_read += 1;
+            }
+        }
+    }
+    if tally.refused() > 0 {
         refused::footnote(output);
     }
     if files.len() > 1 {
         output.block();
-        output.line(summary(&statuses));
+        output.line(&tally);
     }
-    statuses.into_iter().max().unwrap_or(Status::Accepted)
+    tally.status()
 }
 
 /// Opens one file.
-fn open(file: &Path, reader: &mut Reader, output: &mut Output) -> Status {
-    let input = match reader.read(file) {
-        Ok(input) => input,
-        Err(error) => {
-            output.complain(file, &error);
-            return Status::NotDone;
-        }
-    };
+fn open(file: &Path, input: &Input, tally: &mut Tally, output: &mut Output) {
     output.block();
     match scp::open(&input.bytes) {
         Ok(pointers) => {
             show(file, input.size, &pointers, output);
-            Status::Accepted
+            tally.accepted += 1;
         }
         Err(refusal) => {
-            refused::show(file, &input, refusal, output);
-            Status::Refused
+            refused::show(file, input, refusal, output);
+            tally.refuse(refusal);
         }
     }
 }
@@ -84,16 +86,4 @@ fn row(pointer: &Pointer) -> [String; 5] {
         pointer.index.to_string(),
         presence.to_string(),
     ]
-}
-
-/// How many files were accepted, refused and not read.
-fn summary(statuses: &[Status]) -> String {
-    let count = |wanted| statuses.iter().filter(|&&status| status == wanted).count();
-    format!(
-        "{} files: {} accepted, {} refused, {} not read",
-        statuses.len(),
-        count(Status::Accepted),
-        count(Status::Refused),
-        count(Status::NotDone)
-    )
 }

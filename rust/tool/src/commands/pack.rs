@@ -7,7 +7,7 @@ use std::path::Path;
 use scp::{Entry, Pointer, Refusal};
 
 use super::write::say;
-use crate::input::{Input, Reader};
+use crate::input::{read_or_complain, Input};
 use crate::making::{Making, HEADER};
 use crate::names;
 use crate::output::{shown, shown_target, Output};
@@ -40,12 +40,8 @@ pub fn run(file: &Path, out: &Path, force: bool, output: &mut Output) -> Status 
             return Status::NotDone;
         }
     };
-    let input = match Reader::default().read(file) {
-        Ok(input) => input,
-        Err(error) => {
-            output.complain(file, &error);
-            return Status::NotDone;
-        }
+    let Some(input) = read_or_complain(file, output) else {
+        return Status::NotDone;
     };
     let parsed = match Parsed::of(&input.bytes) {
         Ok(parsed) => parsed,

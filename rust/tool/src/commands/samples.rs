@@ -6,7 +6,7 @@ use std::path::Path;
 use scp::{Entry, Refusal};
 
 use super::leads::how_many;
-use crate::input::{Input, Reader};
+use crate::input::{read_or_complain, Input};
 use crate::json;
 use crate::names;
 use crate::output::{shown, Output};
@@ -54,12 +54,8 @@ impl Read {
 
 /// Shows the samples of a file, of all leads or of one.
 pub fn run(file: &Path, place: Option<usize>, form: Form, output: &mut Output) -> Status {
-    let input = match Reader::default().read(file) {
-        Ok(input) => input,
-        Err(error) => {
-            output.complain(file, &error);
-            return Status::NotDone;
-        }
+    let Some(input) = read_or_complain(file, output) else {
+        return Status::NotDone;
     };
     output.block();
     match read(&input.bytes, place) {
@@ -67,7 +63,7 @@ pub fn run(file: &Path, place: Option<usize>, form: Form, output: &mut Output) -
             match form {
                 Form::Text => as_text(file, &input, &leads, output),
                 Form::Csv => as_csv(file, &input, &leads, output),
-                Form::Json => output.line(as_json(file, &input, &leads).text()),
+                Form::Json => output.line(json::text(&as_json(file, &input, &leads))),
             }
             match leads.iter().all(|lead| lead.samples.is_ok()) {
                 true => Status::Accepted,
@@ -117,7 +113,7 @@ fn refuse(
         }
         Form::Json => {
             let refused = json::Refused::new(input, place, refusal);
-            output.line(json::Record::refused(file, input, refused).text());
+            output.line(json::text(&json::Record::refused(file, input, refused)));
         }
     }
 }

@@ -13,7 +13,7 @@ mod writing;
 
 use scp::Refusal;
 
-use crate::input::Size;
+use crate::input::{Input, Size};
 pub use writing::found as found_in_job;
 
 /// What is said if nothing was found, which would be a fault of this module.
@@ -30,6 +30,17 @@ pub struct Looked<'a> {
     pub size: Size,
     /// From 1; of no matter to rules 1 to 9.
     pub place: usize,
+}
+
+impl<'a> Looked<'a> {
+    /// What was read, where the lead at a place was asked for.
+    pub fn at(input: &'a Input, place: usize) -> Looked<'a> {
+        Looked {
+            record: &input.bytes,
+            size: input.size,
+            place,
+        }
+    }
 }
 
 /// What looks for all that breaks one rule.
@@ -55,10 +66,15 @@ const ROWS: [Look; 14] = [
 
 /// What was found in a record that was refused, a line for each thing; at least one.
 pub fn found(looked: &Looked, refusal: Refusal) -> Vec<String> {
-    let row = usize::from(refusal.number()).wrapping_sub(1);
+    found_or(looked, refusal.number(), NOTHING)
+}
+
+/// What was found in a record that breaks a rule, asked alone; these words if there is nothing to be seen.
+pub fn found_or(looked: &Looked, number: u8, nothing: &str) -> Vec<String> {
+    let row = usize::from(number).wrapping_sub(1);
     let found = ROWS.get(row).map_or_else(Vec::new, |look| look(looked));
     if found.is_empty() {
-        return vec![NOTHING.to_string()];
+        return vec![nothing.to_string()];
     }
     found
 }
@@ -66,18 +82,19 @@ pub fn found(looked: &Looked, refusal: Refusal) -> Vec<String> {
 /// Row 1: the length and the size field.
 fn length(record: &[u8], size: Size) -> Vec<String> {
     let bound = scp::RECORD_MAX as u64;
-    let mut found = vec![match size {
-        Size::Exactly(bytes) if bytes < RECORD_MIN => {
-            format!("the length is {size}, under {RECORD_MIN}")
-        }
-        Size::Exactly(bytes) if bytes > bound => format!("the length is {size}, over {bound}"),
-        _ => format!("the length is {size}"),
-    }];
-    found.push(match number(record, 3, 4) {
+    let outside = match size {
+        Size::Exactly(bytes) if bytes < RECORD_MIN => Some(format!("under {RECORD_MIN}")),
+        Size::Exactly(bytes) if bytes > bound => Some(format!("over {bound}")),
+        _ => None,
+    };
+    let field = match number(record, 3, 4) {
         Some(stored) => format!("the size field says {stored}"),
         None => "there is no size field, which is bytes 3 to 6".to_string(),
-    });
-    found
+    };
+    match outside {
+        Some(outside) => vec![format!("the length is {size}, {outside}"), field],
+        None => vec![format!("the length is {size}, and {field}")],
+    }
 }
 
 /// Row 2: the record's check.

@@ -2,6 +2,7 @@
 
 use super::{differs, number, part};
 use crate::names;
+use crate::output::hex;
 
 /// Where Section 0 starts.
 const SECTION_0: u64 = 7;
@@ -67,8 +68,7 @@ fn zero_header(record: &[u8]) -> Vec<String> {
     match part(record, SECTION_0 + 10, 6) {
         Some(b"SCPECG") | None => {}
         Some(letters) => {
-            let letters: Vec<_> = letters.iter().map(|byte| format!("{byte:02X}")).collect();
-            let letters = letters.join(" ");
+            let letters = hex(letters);
             found.push(format!(
                 "bytes 17 to 22 are {letters}, not the letters SCPECG"
             ));

@@ -1,0 +1,57 @@
+//! Tells the tool what was proved, for its version: the commit of the library's sources, and the kit.
+//!
+//! A build needs neither git nor the kit: what is not there is unknown.
+
+use std::path::Path;
+use std::process::Command;
+
+/// What the library is made of.
+const SOURCES: [&str; 2] = ["crates", "crates.txt"];
+
+fn main() {
+    let top = Path::new(env!("CARGO_MANIFEST_DIR")).join("../..");
+    watch(&top);
+    let commit = commit(&top).unwrap_or_else(|| "unknown".to_string());
+    let kit = said(&top, "rt", &["version"]).filter(|kit| !kit.is_empty());
+    let kit = kit.unwrap_or_else(|| "kit unknown".to_string());
+    println!("cargo:rustc-env=TIGMAVRESH_COMMIT={commit}");
+    println!("cargo:rustc-env=TIGMAVRESH_KIT={kit}");
+}
+
+/// Has this run again when the commit changes, the sources, or the archive that was made of them. What is not there is not
+/// watched, since that would be a change each time.
+fn watch(top: &Path) {
+    println!("cargo:rerun-if-changed=build.rs");
+    let git = [".git/HEAD", ".git/refs/heads", ".git/packed-refs"];
+    let archive = ["target/staticlib/libscp.a"];
+    for name in git.iter().chain(&SOURCES).chain(&archive) {
+        let path = top.join(name);
+        if path.exists() {
+            println!("cargo:rerun-if-changed={}", path.display());
+        }
+    }
+}
+
+/// The commit, marked if the library's sources are not those of it.
+fn commit(top: &Path) -> Option<String> {
+    // this folder's own, and not that of one around it
+    let git = |words: &[&str]| {
+        let folders = ["--git-dir=.git", "--work-tree=."];
+        said(top, "git", &[&folders, words].concat())
+    };
+    let commit = git(&["rev-parse", "--short", "HEAD"])?;
+    let status = [&["status", "--porcelain", "--"][..], &SOURCES].concat();
+    match git(&status)?.as_str() {
+        "" => Some(commit),
+        _ => Some(commit + "-changed"),
+    }
+}
+
+/// The first line that a program says in a folder, if it is there and succeeds.
+fn said(folder: &Path, program: &str, words: &[&str]) -> Option<String> {
+    let mut command = Command::new(program);
+    let output = command.args(words).current_dir(folder).output().ok()?;
+    let said = String::from_utf8(output.stdout).ok()?;
+    let line = said.lines().next().unwrap_or("").trim().to_string();
+    output.status.success().then_some(line)
+}

@@ -1,0 +1,197 @@
+//! `tigmavresh check PATH...`: many records, a line for each.
+
+use std::io;
+use std::path::{Path, PathBuf};
+use std::thread;
+
+use indicatif::{ProgressBar, ProgressStyle};
+use rayon::prelude::*;
+use rayon::{ThreadPool, ThreadPoolBuilder};
+
+use crate::files::{self, Listed};
+use crate::input::{self, Size};
+use crate::json;
+use crate::output::{reason, shown, Output};
+use crate::refused;
+use crate::status::Status;
+use crate::tally::Tally;
+use crate::verdict::{Room, Verdict};
+
+/// How many files are listed, checked and then shown: never more than these are held.
+const AT_ONCE: usize = 512;
+
+/// How the bar looks that a terminal shows.
+const BAR: &str = "{bar:40} {pos} of {len} files, {eta} left";
+
+/// What is to be shown.
+#[derive(Clone, Copy)]
+pub struct Asked {
+    /// Only what is refused.
+    pub refused: bool,
+    /// As JSON.
+    pub json: bool,
+}
+
+/// A file that was checked, or could not be.
+struct Checked {
+    file: PathBuf,
+    outcome: io::Result<Judged>,
+}
+
+/// What was judged of a file.
+struct Judged {
+    size: Size,
+    verdict: Verdict,
+    /// Of a refusal the first thing found.
+    found: Option<String>,
+}
+
+/// Checks all files of these paths, so many at a time; the worst of them is the status.
+pub fn run(paths: &[PathBuf], asked: Asked, jobs: Option<u16>, output: &mut Output) -> Status {
+    let jobs = jobs.map_or(0, usize::from); // 0: as many as there are cores
+    let pool = match ThreadPoolBuilder::new().num_threads(jobs).build() {
+        Ok(pool) => pool,
+        Err(error) => {
+            output.remark(&[format!("files cannot be checked at once: {error}")]);
+            return Status::NotDone;
+        }
+    };
+    let bar = bar(paths);
+    let mut tally = Tally::default();
+    let mut files = files::listed(paths);
+    loop {
+        let some: Vec<Listed> = files.by_ref().take(AT_ONCE).collect();
+        if some.is_empty() {
+            break;
+        }
+        let checked = check_all(some, &pool, &bar);
+        bar.suspend(|| {
+            for one in checked {
+                show(&one, asked, output);
+                count(&one, &mut tally);
+            }
+            output.flush();
+        });
+    }
+    bar.finish_and_clear();
+    conclude(&tally, asked, output);
+    tally.status()
+}
+
+/// The bar that shows how far the work is, on a terminal; elsewhere one that is never drawn. A thread counts the files
+/// meanwhile.
+fn bar(paths: &[PathBuf]) -> ProgressBar {
+    let bar = ProgressBar::new(0);
+    if let Ok(style) = ProgressStyle::with_template(BAR) {
+        bar.set_style(style);
+    }
+    if !bar.is_hidden() {
+        let (bar, paths) = (bar.clone(), paths.to_vec());
+        thread::spawn(move || files::listed(&paths).for_each(|_| bar.inc_length(1)));
+    }
+    bar
+}
+
+/// Checks some files, side by side; the answers are in their order.
+fn check_all(files: Vec<Listed>, pool: &ThreadPool, bar: &ProgressBar) -> Vec<Checked> {
+    let check = |room: &mut Room, file: Listed| {
+        let checked = match file {
+            Ok(file) => Checked {
+                outcome: check(&file, room),
+                file,
+            },
+            Err((file, error)) => Checked {
+                outcome: Err(error),
+                file,
+            },
+        };
+        bar.inc(1);
+        checked
+    };
+    pool.install(|| {
+        let files = files.into_par_iter();
+        files.map_init(Room::default, check).collect()
+    })
+}
+
+/// Checks one file.
+fn check(file: &Path, room: &mut Room) -> io::Result<Judged> {
+    let input = input::read(file)?;
+    let verdict = Verdict::of(&input.bytes, room);
+    let found = match verdict {
+        Verdict::Accepted { .. } => None,
+        Verdict::Refused { refusal, lead } => {
+            let found = refused::found(&input, lead.unwrap_or(1), refusal);
+            found.into_iter().next()
+        }
+    };
+    Ok(Judged {
+        size: input.size,
+        verdict,
+        found,
+    })
+}
+
+/// Counts a file.
+fn count(checked: &Checked, tally: &mut Tally) {
+    match &checked.outcome {
+        Err(_) => tally.not_read += 1,
+        Ok(judged) => match judged.verdict {
+            Verdict::Accepted { .. } => tally.accepted += 1,
+            Verdict::Refused { refusal, .. } => tally.refuse(refusal),
+        },
+    }
+}
+
+/// Shows a file, if it is asked for.
+fn show(checked: &Checked, asked: Asked, output: &mut Output) {
+    let file = &checked.file;
+    match &checked.outcome {
+        Err(error) => {
+            if asked.json {
+                output.line(json::line(&json::Unread::new(file, reason(error))));
+            }
+            output.complain(file, error);
+        }
+        Ok(judged) if asked.refused && matches!(judged.verdict, Verdict::Accepted { .. }) => {}
+        Ok(judged) if asked.json => output.line(as_json(file, judged)),
+        Ok(judged) => output.line(as_text(file, judged)),
+    }
+}
+
+/// A record's line of text.
+fn as_text(file: &Path, judged: &Judged) -> String {
+    let heading = format!("{}: {}", shown(file), judged.verdict.told(judged.size));
+    match (judged.verdict, &judged.found) {
+        (Verdict::Refused { refusal, .. }, Some(found)) => {
+            format!("{heading}: {}; found: {found}", refusal.words())
+        }
+        _ => heading,
+    }
+}
+
+/// A record's line of JSON.
+fn as_json(file: &Path, judged: &Judged) -> String {
+    let found = judged.found.iter().cloned().collect();
+    json::line(&json::Checked::new(
+        file,
+        judged.size,
+        judged.verdict,
+        found,
+    ))
+}
+
+/// Shows how many files were accepted, refused with each number, and not read.
+fn conclude(tally: &Tally, asked: Asked, output: &mut Output) {
+    if asked.json {
+        return output.line(json::line(&json::Summary::new(tally)));
+    }
+    if tally.refused() > 0 {
+        refused::footnote(output);
+    }
+    output.block();
+    output.line(tally);
+    for line in tally.table() {
+        output.line(line);
+    }
+}

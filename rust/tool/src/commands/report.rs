@@ -1,0 +1,284 @@
+//! `tigmavresh report FILE`: every rule that a record breaks, and what reading each of its leads answers.
+
+use std::path::Path;
+
+use scp::{Entry, Refusal};
+
+use crate::explain::{self, Looked};
+use crate::input::{read_or_complain, Input};
+use crate::json;
+use crate::names;
+use crate::output::{shown, Output};
+use crate::refused;
+use crate::rules;
+use crate::status::Status;
+use crate::table::{self, numbers, words, Column};
+use crate::verdict::{Room, Verdict};
+
+/// The rules that are asked alone.
+const ALONE: u8 = 9;
+
+const RULES: [Column; 3] = [numbers("Rule"), words(""), words("Answer")];
+const LEADS: [Column; 3] = [numbers("Lead"), words(""), words("Answer")];
+
+/// Whose word the answers are, and whose the explanations.
+const NOTE: &str =
+    "The answers are the proved library's; what was found is the tool's own look at the bytes, to explain them.";
+
+/// What is said where a rule seems broken and nothing of it is to be seen.
+const UNSEEN: &str = "nothing that could be pointed at, the bytes being as they are";
+
+/// What the library says of a rule, asked alone.
+struct Answer {
+    number: u8,
+    is_broken: bool,
+    /// Whether every rule before it is kept.
+    is_certain: bool,
+    found: Vec<String>,
+}
+
+/// What reading a lead answers.
+struct Read {
+    place: usize,
+    entry: Entry,
+    refusal: Option<Refusal>,
+}
+
+/// All that was asked of a record.
+struct Report<'a> {
+    file: &'a Path,
+    input: &'a Input,
+    verdict: Verdict,
+    answers: Vec<Answer>,
+    leads: Vec<Read>,
+}
+
+/// Reports on a file, as text or as JSON.
+pub fn run(file: &Path, json: bool, output: &mut Output) -> Status {
+    let Some(input) = read_or_complain(file, output) else {
+        return Status::NotDone;
+    };
+    let report = Report::of(file, &input);
+    match json {
+        true => output.line(json::text(&report.as_json())),
+        false => report.show(output),
+    }
+    match report.verdict {
+        Verdict::Accepted { .. } => Status::Accepted,
+        Verdict::Refused { .. } => Status::Refused,
+    }
+}
+
+impl Answer {
+    fn name(&self) -> &'static str {
+        rules::name(self.number)
+    }
+
+    /// The answer in words.
+    fn words(&self) -> String {
+        let answer = if self.is_broken { "broken" } else { "kept" };
+        match self.is_certain {
+            true => answer.to_string(),
+            false => format!("{answer}, as it seems"),
+        }
+    }
+}
+
+impl Read {
+    fn words(&self) -> String {
+        match self.refusal {
+            Some(refusal) => format!("refused, number {}", refusal.number()),
+            None => "accepted".to_string(),
+        }
+    }
+}
+
+/// Asks the rules one by one. Of a record that is too long not all bytes were read, and the first alone is asked.
+fn answers(input: &Input) -> Vec<Answer> {
+    let last = match input.bytes.len() > scp::RECORD_MAX {
+        true => 1,
+        false => ALONE,
+    };
+    let mut is_certain = true;
+    let ask = |number| {
+        let is_broken = scp::breaks(&input.bytes, number);
+        let looked = Looked::at(input, 1);
+        let answer = Answer {
+            number,
+            is_broken,
+            is_certain,
+            found: match is_broken {
+                true => explain::found_or(&looked, number, UNSEEN),
+                false => Vec::new(),
+            },
+        };
+        is_certain &= !is_broken;
+        answer
+    };
+    (1..=last).map(ask).collect()
+}
+
+/// Reads every lead, if the record has leads that can be asked for.
+fn leads(record: &[u8]) -> Vec<Read> {
+    let mut room = Room::default();
+    let entries = scp::leads(record).unwrap_or_default();
+    let read = |(place, entry)| Read {
+        place,
+        entry,
+        refusal: room.read(record, place).err(),
+    };
+    (1..).zip(entries).map(read).collect()
+}
+
+impl<'a> Report<'a> {
+    fn of(file: &'a Path, input: &'a Input) -> Report<'a> {
+        Report {
+            file,
+            input,
+            verdict: Verdict::of(&input.bytes, &mut Room::default()),
+            answers: answers(input),
+            leads: leads(&input.bytes),
+        }
+    }
+
+    /// What is not certain, if something is not.
+    fn caution(&self) -> Option<String> {
+        let first = self.answers.iter().find(|answer| answer.is_broken)?;
+        let last = self.answers.last().filter(|last| !last.is_certain)?;
+        let (broken, from, to) = (first.number, first.number + 1, last.number);
+        let rules = match from == to {
+            true => format!("Rule {to} was"),
+            false => format!("Rules {from} to {to} were"),
+        };
+        Some(format!(
+            "{rules} asked alone, of bytes that break rule {broken}: the answer is a hint, and not certain."
+        ))
+    }
+
+    /// Whose word is what, if something was found.
+    fn note(&self) -> Option<&'static str> {
+        matches!(self.verdict, Verdict::Refused { .. }).then_some(NOTE)
+    }
+
+    // ---- text
+
+    fn show(&self, output: &mut Output) {
+        let told = self.verdict.told(self.input.size);
+        output.line(format_args!("{}: {told}", shown(self.file)));
+        let rows: Vec<_> = self.answers.iter().map(rule_row).collect();
+        self.show_table(&RULES, &rows, output);
+        for answer in self.answers.iter().filter(|answer| answer.is_broken) {
+            self.show_broken(answer, output);
+        }
+        self.show_leads(output);
+        if let Some(caution) = self.caution() {
+            output.block();
+            output.line(caution);
+        }
+        if let Some(note) = self.note() {
+            output.block();
+            output.line(note);
+        }
+    }
+
+    fn show_table(&self, columns: &[Column; 3], rows: &[[String; 3]], output: &mut Output) {
+        for line in table::lines(columns, rows) {
+            output.line(line);
+        }
+    }
+
+    /// Shows a rule that is broken, and what was found.
+    fn show_broken(&self, answer: &Answer, output: &mut Output) {
+        output.block();
+        output.line(format_args!(
+            "Rule {}, {}: {}",
+            answer.number,
+            answer.name(),
+            answer.words()
+        ));
+        let lines = match self.verdict {
+            Verdict::Refused { refusal, .. } if answer.is_certain => {
+                refused::told(refusal, &answer.found)
+            }
+            _ => refused::found_lines(&answer.found),
+        };
+        lines.iter().for_each(|line| output.line(line));
+    }
+
+    /// Shows what reading each lead answers, or why none is read.
+    fn show_leads(&self, output: &mut Output) {
+        output.block();
+        match self.verdict {
+            _ if !self.leads.is_empty() => {
+                let rows: Vec<_> = self.leads.iter().map(lead_row).collect();
+                self.show_table(&LEADS, &rows, output);
+            }
+            Verdict::Refused { refusal, .. } => {
+                let number = refusal.number();
+                output.line(format_args!(
+                    "No lead is read: all are refused, number {number}"
+                ));
+                if number > ALONE {
+                    let lines = refused::lines(self.input, 1, refusal);
+                    lines.iter().for_each(|line| output.line(line));
+                }
+            }
+            Verdict::Accepted { .. } => {
+                output.line("No lead is read: there is neither Section 3 nor Section 6");
+            }
+        }
+        for lead in &self.leads {
+            if let Some(refusal) = lead.refusal {
+                output.block();
+                let (place, name) = (lead.place, names::lead(lead.entry.id));
+                output.line(format_args!("Lead {place}, {name}: {}", lead.words()));
+                let lines = refused::lines(self.input, place, refusal);
+                lines.iter().for_each(|line| output.line(line));
+            }
+        }
+    }
+
+    // ---- JSON
+
+    fn as_json(&self) -> json::Report {
+        let found = match self.verdict {
+            Verdict::Refused { refusal, lead } => {
+                refused::found(self.input, lead.unwrap_or(1), refusal)
+            }
+            Verdict::Accepted { .. } => Vec::new(),
+        };
+        let rule = |answer: &Answer| json::Rule {
+            number: answer.number,
+            name: answer.name(),
+            broken: answer.is_broken,
+            certain: answer.is_certain,
+            found: answer.found.clone(),
+        };
+        let lead = |lead: &Read| {
+            let refused = |refusal| json::Refused::new(self.input, lead.place, refusal);
+            json::Lead::new(lead.place, &lead.entry).answered(lead.refusal.map(refused))
+        };
+        json::Report {
+            verdict: json::Checked::new(self.file, self.input.size, self.verdict, found),
+            rules: self.answers.iter().map(rule).collect(),
+            leads: self.leads.iter().map(lead).collect(),
+            caution: self.caution(),
+            note: self.note(),
+        }
+    }
+}
+
+/// A rule's row of the table.
+fn rule_row(answer: &Answer) -> [String; 3] {
+    let name = answer.name().to_string();
+    [answer.number.to_string(), name, answer.words()]
+}
+
+/// A lead's row of the table.
+fn lead_row(lead: &Read) -> [String; 3] {
+    [
+        lead.place.to_string(),
+        names::lead(lead.entry.id),
+        lead.words(),
+    ]
+}

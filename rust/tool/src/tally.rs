@@ -1,0 +1,76 @@
+//! How many files were accepted, refused and not read.
+
+use std::collections::BTreeMap;
+use std::fmt;
+
+use scp::Refusal;
+
+use crate::status::Status;
+use crate::table::{self, numbers, words, Column};
+
+const COLUMNS: [Column; 3] = [numbers("Number"), numbers("Files"), words("Rule")];
+
+/// Files, counted by how they fared.
+#[derive(Default)]
+pub struct Tally {
+    pub accepted: usize,
+    pub not_read: usize,
+    by_refusal: BTreeMap<Refusal, usize>,
+}
+
+impl Tally {
+    /// Counts a file that was refused.
+    pub fn refuse(&mut self, refusal: Refusal) {
+        *self.by_refusal.entry(refusal).or_default() += 1;
+    }
+
+    /// How many files were refused.
+    pub fn refused(&self) -> usize {
+        self.by_refusal.values().sum()
+    }
+
+    /// How many files there were.
+    pub fn files(&self) -> usize {
+        self.accepted + self.refused() + self.not_read
+    }
+
+    /// Each number that files were refused with, and how many.
+    pub fn by_number(&self) -> impl Iterator<Item = (u8, usize)> + '_ {
+        let counted = self.by_refusal.iter();
+        counted.map(|(refusal, &files)| (refusal.number(), files))
+    }
+
+    /// The status of the worst file.
+    pub fn status(&self) -> Status {
+        match (self.not_read, self.refused()) {
+            (0, 0) => Status::Accepted,
+            (0, _) => Status::Refused,
+            _ => Status::NotDone,
+        }
+    }
+
+    /// The numbers that files were refused with, as a table.
+    pub fn table(&self) -> Vec<String> {
+        let row = |(refusal, files): (&Refusal, &usize)| {
+            let words = refusal.words().to_string();
+            [refusal.number().to_string(), files.to_string(), words]
+        };
+        let rows: Vec<_> = self.by_refusal.iter().map(row).collect();
+        match rows.is_empty() {
+            true => Vec::new(),
+            false => table::lines(&COLUMNS, &rows),
+        }
+    }
+}
+
+impl fmt::Display for Tally {
+    fn fmt(&self, f: &mut fmt::Formatter<'_>) -> fmt::Result {
+        let (files, refused) = (self.files(), self.refused());
+        let (accepted, not_read) = (self.accepted, self.not_read);
+        let name = if files == 1 { "file" } else { "files" };
+        write!(
+            f,
+            "{files} {name}: {accepted} accepted, {refused} refused, {not_read} not read"
+        )
+    }
+}

@@ -1,0 +1,153 @@
+//! What the library says of a whole record: it is opened, and every lead of it is read.
+
+use std::fmt;
+
+use scp::{Pointer, Refusal, SAMPLES_MAX};
+
+use crate::commands::leads::how_many;
+use crate::input::Size;
+
+/// The largest number that refuses all leads alike.
+const OF_ALL: u8 = 10;
+
+/// The refusals of a lead that is not there, and of room that is too short.
+const ABSENT: u8 = 10;
+const ROOM: u8 = 11;
+
+/// So many samples most beats have at most.
+const MOST_BEATS: usize = 2048;
+
+/// What was judged.
+#[derive(Clone, Copy, Debug, PartialEq, Eq)]
+pub enum Verdict {
+    /// It opens, and so many leads are read: none, where it has neither Section 3 nor Section 6.
+    Accepted { leads: usize },
+    /// It is refused, or a lead of it at this place is, the first one.
+    Refused {
+        refusal: Refusal,
+        lead: Option<usize>,
+    },
+}
+
+/// Room for any lead, and for its beat.
+pub struct Room {
+    out: Vec<i16>,
+    work: Vec<i16>,
+}
+
+impl Default for Room {
+    fn default() -> Room {
+        Room {
+            out: vec![0; SAMPLES_MAX],
+            work: vec![0; SAMPLES_MAX],
+        }
+    }
+}
+
+impl Room {
+    /// Reads a lead. Its samples are left where they are. All that is lent for a beat is cleared, so that little is lent
+    /// first, and all if that is too little.
+    pub fn read(&mut self, record: &[u8], place: usize) -> Result<(), Refusal> {
+        let mut read =
+            |work: &mut [i16]| scp::read_lead(record, place, &mut self.out, work).map(|_| ());
+        match read(&mut self.work[..MOST_BEATS]) {
+            Err(refusal) if refusal.number() == ROOM => read(&mut self.work),
+            answer => answer,
+        }
+    }
+}
+
+impl Verdict {
+    /// Judges a record. A lead that is asked for is refused as opening refuses, so that nothing is lost by asking for the first
+    /// one at once.
+    pub fn of(record: &[u8], room: &mut Room) -> Verdict {
+        let leads = match scp::lead(record, 1) {
+            Ok(entry) => entry.leads,
+            Err(refusal) if refusal.number() == ABSENT && has_none(record) => 0,
+            Err(refusal) => {
+                return Verdict::Refused {
+                    refusal,
+                    lead: None,
+                }
+            }
+        };
+        let refused = |place| room.read(record, place).err().map(|why| (place, why));
+        match (1..=leads).find_map(refused) {
+            Some((place, refusal)) => Verdict::Refused {
+                refusal,
+                lead: (refusal.number() > OF_ALL).then_some(place),
+            },
+            None => Verdict::Accepted { leads },
+        }
+    }
+
+    /// The verdict on a record of this size, in a few words.
+    pub fn told(&self, size: Size) -> String {
+        match self {
+            Verdict::Accepted { leads } => format!("{self} ({size}; {})", how_many(*leads)),
+            Verdict::Refused { .. } => format!("{self} ({size})"),
+        }
+    }
+}
+
+impl fmt::Display for Verdict {
+    fn fmt(&self, f: &mut fmt::Formatter<'_>) -> fmt::Result {
+        match self {
+            Verdict::Accepted { .. } => write!(f, "accepted"),
+            Verdict::Refused { refusal, lead } => {
+                write!(f, "refused, number {}", refusal.number())?;
+                lead.map_or(Ok(()), |place| write!(f, ", lead {place}"))
+            }
+        }
+    }
+}
+
+/// Whether a record that opens has neither Section 3 nor Section 6, and so no lead.
+fn has_none(record: &[u8]) -> bool {
+    let of_leads = |pointer: &Pointer| [3, 6].contains(&pointer.id) && pointer.is_present();
+    scp::open(record).is_ok_and(|pointers| !pointers.iter().any(of_leads))
+}
+
+#[cfg(test)]
+mod tests {
+    use judge::make::{aimed, noise, Rng};
+
+    use super::{Room, Verdict};
+
+    /// A verdict is what opening and then reading each lead answer, taken one by one.
+    #[test]
+    fn a_verdict_is_that_of_opening_and_reading() {
+        let mut rng = Rng::new(3);
+        let mut room = Room::default();
+        let (mut accepted, mut refused) = (0, [0; 15]);
+        for turn in 0..1500 {
+            let record = match (turn % 15) as u8 {
+                0 => noise(&mut rng),
+                row => aimed(&mut rng, row),
+            };
+            match Verdict::of(&record, &mut room) {
+                Verdict::Accepted { leads } => {
+                    assert!(scp::open(&record).is_ok());
+                    for place in 1..=leads {
+                        assert!(scp::samples(&record, place).is_ok());
+                    }
+                    let next = scp::samples(&record, leads + 1).map(|_| ());
+                    assert_eq!(next.map_err(|refusal| refusal.number()), Err(10));
+                    accepted += 1;
+                }
+                Verdict::Refused { refusal, lead } => {
+                    let first = scp::open(&record).map(|_| ());
+                    let asked = scp::samples(&record, lead.unwrap_or(1)).map(|_| ());
+                    assert_eq!(first.and(asked), Err(refusal));
+                    for place in 1..lead.unwrap_or(1) {
+                        assert!(scp::samples(&record, place).is_ok());
+                    }
+                    refused[refusal.number() as usize] += 1;
+                }
+            }
+        }
+        assert!(accepted > 0);
+        let never: Vec<usize> = (1..15).filter(|&row| refused[row] == 0).collect();
+        assert_eq!(never, [11], "{refused:?}");
+    }
+}

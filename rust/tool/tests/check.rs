@@ -1,0 +1,306 @@
+//! `check` in a user's hands: what it accepts, which files it takes, in which order, and what it says of them.
+
+mod common;
+
+use std::fs;
+use std::os::unix::fs::symlink;
+use std::process::Command;
+
+use common::folder::Folder;
+use common::record::{put, seal};
+use common::{run, run_by_shell, run_in, run_on_terminal, run_with_input, sample, samples, Ran};
+use serde_json::{json, Value};
+
+/// The samples that are accepted, and how many leads are read.
+const ACCEPTED: [(&str, usize); 7] = [
+    ("007.scp", 0),
+    ("7.scp", 0),
+    ("beat.scp", 2),
+    ("limb-leads.scp", 6),
+    ("makers-sections.scp", 0),
+    ("own-tables.scp", 2),
+    ("two-leads.scp", 2),
+];
+
+/// The numbers that there is a sample for.
+const REFUSED: [u8; 13] = [1, 2, 3, 4, 5, 6, 7, 8, 9, 10, 12, 13, 14];
+
+impl Ran {
+    /// Each line as JSON.
+    fn lines(&self) -> Vec<Value> {
+        let lines = self.out.lines().map(serde_json::from_str);
+        lines.collect::<Result<_, _>>().unwrap()
+    }
+
+    /// The names of the files that were shown.
+    fn names(&self) -> Vec<String> {
+        let lines = self.lines();
+        let names = lines.iter().filter_map(|line| line["file"].as_str());
+        names.map(str::to_string).collect()
+    }
+}
+
+#[test]
+fn each_sample_is_checked() {
+    for (name, leads) in ACCEPTED {
+        let ran = run(&["check", name, "--json"]);
+        assert_eq!((ran.status, ran.err.as_str()), (0, ""), "{name}");
+        let shown = &ran.lines()[0];
+        let bytes = sample(name).len();
+        let expected = json!({"file": name, "bytes": bytes, "refusal": null, "lead_count": leads});
+        assert_eq!(*shown, expected);
+    }
+    for number in REFUSED {
+        let name = format!("refused-{number}.scp");
+        let ran = run(&["check", &name, "--json"]);
+        assert_eq!((ran.status, ran.err.as_str()), (1, ""), "{name}");
+        let shown = &ran.lines()[0];
+        assert_eq!(shown["refusal"]["number"], number);
+        assert!(shown.get("lead_count").is_none());
+        // 12 to 14 are of one lead, here the second
+        let lead = if number > 10 { json!(2) } else { json!(null) };
+        assert_eq!(shown["lead"], lead, "{name}");
+        assert_eq!(shown["refusal"]["found"].as_array().unwrap().len(), 1);
+    }
+}
+
+#[test]
+fn a_record_is_a_line() {
+    let ran = run(&[
+        "check",
+        "limb-leads.scp",
+        "007.scp",
+        "refused-12.scp",
+        "refused-1.scp",
+    ]);
+    let text = "\
+limb-leads.scp: accepted (410 bytes; 6 leads)
+007.scp: accepted (196 bytes; no lead)
+refused-12.scp: refused, number 12, lead 2 (406 bytes): each value's code is in the current table and whole; \
+found: Section 6, lead 2: no value for sample 13: the stream ends inside the code at bit 47 of 48
+refused-1.scp: refused, number 1 (352 bytes): a record has 142 to 1,048,576 bytes, as many as its size field says; \
+found: the length is 352 bytes, and the size field says 372
+
+The refusal is the proved library's; what was found is the tool's own look at the bytes, to explain it.
+
+4 files: 2 accepted, 2 refused, 0 not read
+  Number  Files  Rule
+       1      1  a record has 142 to 1,048,576 bytes, as many as its size field says
+      12      1  each value's code is in the current table and whole
+";
+    assert_eq!((ran.status, ran.out.as_str()), (1, text));
+    let ran = run(&["check", "007.scp"]);
+    let text =
+        "007.scp: accepted (196 bytes; no lead)\n\n1 file: 1 accepted, 0 refused, 0 not read\n";
+    assert_eq!((ran.status, ran.out.as_str()), (0, text));
+}
+
+/// A record without leads is accepted, but not one whose code tables break their rule.
+#[test]
+fn tables_are_judged_where_there_is_no_lead() {
+    let folder = Folder::new("no-lead");
+    for (name, status) in [("own-tables.scp", 0), ("refused-7.scp", 1)] {
+        let mut record = sample(name);
+        for id in [3, 6] {
+            put(&mut record, 6 + 16 + 10 * id + 2, 0);
+        }
+        seal(&mut record);
+        let file = folder.file(name, &record);
+        let ran = run(&["check", &file, "--json"]);
+        assert_eq!(ran.status, status, "{}", ran.out);
+        let number = if status == 0 { json!(null) } else { json!(7) };
+        assert_eq!(ran.lines()[0]["refusal"]["number"], number);
+        assert_eq!(run(&["report", &file]).status, status);
+    }
+}
+
+/// Many files: the same answer however many are checked at once, in their order, and in parts of what is held at once.
+#[test]
+fn the_answer_does_not_depend_on_the_jobs() {
+    let folder = Folder::new("jobs");
+    let kinds = [
+        "007.scp",
+        "beat.scp",
+        "refused-2.scp",
+        "refused-13.scp",
+        "limb-leads.scp",
+    ];
+    for number in 0..600 {
+        let kind = samples().join(kinds[number % kinds.len()]);
+        fs::copy(kind, folder.path(&format!("{number:04}.scp"))).unwrap();
+    }
+    for form in [&["check", "."][..], &["check", ".", "--json"]] {
+        let one = run_in(&folder, &[form, &["--jobs", "1"]].concat());
+        assert_eq!((one.status, one.err.as_str()), (1, ""));
+        for jobs in [&["--jobs", "2"][..], &["--jobs=7"], &[]] {
+            let some = run_in(&folder, &[form, jobs].concat());
+            assert_eq!(some.status, 1);
+            assert!(some.out == one.out, "{form:?} {jobs:?}");
+        }
+    }
+    let ran = run_in(&folder, &["check", ".", "--json", "--jobs", "2"]);
+    let names: Vec<String> = (0..600).map(|n| format!("./{n:04}.scp")).collect();
+    assert_eq!(ran.names(), names);
+    let summary = ran.lines().pop().unwrap();
+    let counts = json!({"files": 600, "accepted": 360, "refused": 240, "not_read": 0, "by_number": {"2": 120, "13": 120}});
+    assert_eq!(summary["summary"], counts);
+    assert!(summary["note"]
+        .as_str()
+        .unwrap()
+        .contains("the tool's own look"));
+}
+
+/// A folder with folders, links and a pipe in it.
+fn tree() -> Folder {
+    let folder = Folder::new("tree");
+    fs::create_dir_all(folder.path("b/c")).unwrap();
+    for name in ["b.scp", "a", "b/2", "b/10", "b/c/.hidden", "z.txt"] {
+        folder.file(name, &sample("7.scp"));
+    }
+    symlink("a", folder.path("link")).unwrap();
+    symlink("..", folder.path("b/c/loop")).unwrap();
+    symlink("b/c", folder.path("folder-link")).unwrap();
+    symlink("nowhere", folder.path("dangling")).unwrap();
+    let pipe = Command::new("mkfifo").arg(folder.path("pipe")).status();
+    assert!(pipe.unwrap().success());
+    folder
+}
+
+#[test]
+fn a_folder_is_its_regular_files_in_order() {
+    let folder = tree();
+    let ran = run_in(&folder, &["check", ".", "--json"]);
+    assert_eq!((ran.status, ran.err.as_str()), (0, ""));
+    let names = [
+        "./a",
+        "./b/10",
+        "./b/2",
+        "./b/c/.hidden",
+        "./b.scp",
+        "./z.txt",
+    ];
+    assert_eq!(ran.names(), names);
+    // paths come in the order in which they are given, as often as they are
+    let ran = run_in(&folder, &["check", "--json", "z.txt", "b/c", "a", "z.txt"]);
+    assert_eq!(ran.names(), ["z.txt", "b/c/.hidden", "a", "z.txt"]);
+    fs::create_dir(folder.path("empty")).unwrap();
+    let ran = run_in(&folder, &["check", "empty"]);
+    let text = "0 files: 0 accepted, 0 refused, 0 not read\n";
+    assert_eq!((ran.status, ran.out.as_str()), (0, text));
+}
+
+#[test]
+fn a_link_is_followed_where_it_is_given() {
+    let folder = tree();
+    let ran = run_in(&folder, &["check", "--json", "link", "folder-link"]);
+    assert_eq!((ran.status, ran.err.as_str()), (0, ""));
+    assert_eq!(ran.names(), ["link", "folder-link/.hidden"]);
+    let ran = run_in(&folder, &["check", "dangling"]);
+    assert_eq!(ran.status, 2);
+    assert_eq!(ran.err, "tigmavresh: dangling: No such file or directory\n");
+}
+
+#[test]
+fn what_cannot_be_read_does_not_stop_the_others() {
+    let words = [
+        "check",
+        "none.scp",
+        "007.scp",
+        "none",
+        "refused-2.scp",
+        "--json",
+    ];
+    let ran = run(&words);
+    assert_eq!(ran.status, 2);
+    let reason = "No such file or directory";
+    assert_eq!(
+        ran.err,
+        format!("tigmavresh: none.scp: {reason}\ntigmavresh: none: {reason}\n")
+    );
+    let lines = ran.lines();
+    assert_eq!(lines[0], json!({"file": "none.scp", "error": reason}));
+    assert_eq!(
+        ran.names(),
+        ["none.scp", "007.scp", "none", "refused-2.scp"]
+    );
+    assert_eq!(lines[4]["summary"]["not_read"], 2);
+    let ran = run(&words[..5]);
+    assert_eq!(ran.status, 2);
+    assert!(ran.out.starts_with("007.scp: accepted"), "{}", ran.out);
+    assert!(
+        ran.out
+            .contains("\n4 files: 1 accepted, 1 refused, 2 not read\n"),
+        "{}",
+        ran.out
+    );
+}
+
+#[test]
+fn standard_input_is_one_of_the_files() {
+    let input = || fs::File::open(samples().join("refused-14.scp")).unwrap();
+    let ran = run_with_input(&["check", "7.scp", "-", "007.scp", "-", "--json"], input());
+    assert_eq!(ran.status, 2);
+    assert_eq!(ran.err, "tigmavresh: standard input: it was read already\n");
+    let lines = ran.lines();
+    assert_eq!(ran.names(), ["7.scp", "-", "007.scp", "-"]);
+    assert_eq!(lines[1]["refusal"]["number"], 14);
+    assert_eq!(lines[3]["error"], "it was read already");
+}
+
+#[test]
+fn only_the_refused_are_shown_if_that_is_asked() {
+    let ran = run(&["check", "--refused", "007.scp", "refused-6.scp", "beat.scp"]);
+    assert_eq!(ran.status, 1);
+    assert!(ran
+        .first_line()
+        .starts_with("refused-6.scp: refused, number 6"));
+    assert!(
+        !ran.out.contains("007.scp") && !ran.out.contains("beat.scp"),
+        "{}",
+        ran.out
+    );
+    assert!(ran
+        .out
+        .contains("\n3 files: 2 accepted, 1 refused, 0 not read\n"));
+    let ran = run(&["check", "--refused", "007.scp"]);
+    assert_eq!(ran.out, "1 file: 1 accepted, 0 refused, 0 not read\n");
+    let ran = run(&["check", "--refused", "--json", "007.scp", "refused-6.scp"]);
+    assert_eq!(ran.names(), ["refused-6.scp"]);
+}
+
+#[test]
+fn jobs_are_a_number_over_0() {
+    for jobs in ["0", "-1", "1.5", "many", "", "1025"] {
+        let ran = run(&["check", "007.scp", &format!("--jobs={jobs}")]);
+        assert_eq!((ran.status, ran.out.as_str()), (2, ""), "{jobs}");
+        assert!(ran.err.contains("--jobs"), "{}", ran.err);
+    }
+    assert_eq!(run(&["check", "007.scp", "--jobs", "64"]).status, 0);
+}
+
+/// A terminal shows how far the work is, and a pipe is spared it.
+#[test]
+fn a_terminal_has_a_bar() {
+    let ran = run(&["check", "."]);
+    assert_eq!(ran.err, "");
+    assert!(!ran.out.contains('\u{1b}'), "{}", ran.out);
+    if let Some(ran) = run_on_terminal("check . --jobs 1") {
+        assert_eq!(ran.status, 1);
+        assert!(ran.out.contains(" files, "), "{}", ran.out);
+        assert!(ran
+            .out
+            .contains("./beat.scp: accepted (418 bytes; 2 leads)"));
+    }
+}
+
+/// The reader goes away after a line: no complaint, and the status still tells of every file.
+#[test]
+fn a_closed_pipe_is_quiet() {
+    let line = "{ \"$@\"; echo $? >&2; } | head -1";
+    for (last, status) in [("007.scp", "0\n"), ("refused-3.scp", "1\n")] {
+        let files = [&["7.scp"; 700][..], &[last]].concat();
+        let ran = run_by_shell(line, &[&["check"][..], &files].concat());
+        assert_eq!(ran.out, "7.scp: accepted (194 bytes; no lead)\n");
+        assert_eq!(ran.err, status);
+    }
+}

@@ -1,0 +1,227 @@
+//! What the tool says of itself: refusals explained, its manual page, shells' completions, its version.
+
+mod common;
+
+use std::io::Write;
+use std::path::Path;
+use std::process::{Command, Stdio};
+
+use common::{run, Ran};
+
+/// The commands, as the help lists them.
+fn commands() -> Vec<String> {
+    let help = run(&["--help"]).out;
+    let list = help.lines().skip_while(|line| *line != "Commands:").skip(1);
+    let names = list.take_while(|line| !line.is_empty());
+    names
+        .filter_map(|line| line.split_whitespace().next())
+        .map(str::to_string)
+        .collect()
+}
+
+/// Runs another program with this standard input, if it is there.
+fn other(program: &str, words: &[&str], input: &str) -> Option<Ran> {
+    let mut command = Command::new(program);
+    command.args(words).stdin(Stdio::piped());
+    command.stdout(Stdio::piped()).stderr(Stdio::piped());
+    let Ok(mut child) = command.spawn() else {
+        println!("there is no {program}");
+        return None;
+    };
+    let mut to = child.stdin.take().unwrap();
+    let _ = to.write_all(input.as_bytes());
+    drop(to);
+    let ran = Ran::from(child.wait_with_output().unwrap());
+    // what an emulator says of a program that is not there
+    Some(ran).filter(|ran| ran.status != 127)
+}
+
+#[test]
+fn every_refusal_is_explained() {
+    let mut names = Vec::new();
+    for number in 1..=17 {
+        let ran = run(&["--explain", &number.to_string()]);
+        assert_eq!((ran.status, ran.err.as_str()), (0, ""));
+        let name = ran
+            .first_line()
+            .strip_prefix(&format!("Refusal {number}: "));
+        names.push(name.unwrap().to_string());
+        assert!(ran.out.contains("\n\nFor example, "), "{}", ran.out);
+        assert!(ran.out.contains("\n\nGiven by "), "{}", ran.out);
+    }
+    let all = names.len();
+    names.sort();
+    names.dedup();
+    assert_eq!((names.len(), all), (17, 17));
+    for number in ["0", "18", "256", "-1", "one", ""] {
+        let ran = run(&[&format!("--explain={number}")]);
+        assert_eq!((ran.status, ran.out.as_str()), (2, ""), "{number}");
+    }
+    assert_eq!(run(&["--explain", "1", "open", "007.scp"]).status, 2);
+}
+
+/// What an explanation says of a sample is what the tool finds there.
+#[test]
+fn explanations_are_true_of_the_samples() {
+    for (number, facts) in [
+        (1, &["372", "352"][..]),
+        (2, &["0x5937", "0x5A44"]),
+        (3, &["ID 128", "200"]),
+        (4, &["Section 8", "Section 7"]),
+        (5, &["Section 1", "0x5C64", "0x4C45"]),
+        (6, &["no NUL at its end"]),
+        (7, &["table 2", "prefix 101", "10"]),
+        (8, &["10"]),
+        (9, &["1000", "2000"]),
+        (10, &["Section 6"]),
+        (12, &["sample 13"]),
+        (13, &["sample 6", "32820"]),
+        (14, &["12 bits are left"]),
+    ] {
+        let told = run(&["--explain", &number.to_string()]).out;
+        let told = told.replace('\n', " ");
+        let name = format!("refused-{number}.scp");
+        assert!(told.contains(&format!("samples/{name}")), "{told}");
+        let found = run(&["check", &name]).out;
+        assert!(
+            found.starts_with(&format!("{name}: refused, number {number}")),
+            "{found}"
+        );
+        for fact in facts {
+            assert!(told.contains(fact), "{fact}: {told}");
+            assert!(found.contains(fact), "{fact}: {found}");
+        }
+    }
+}
+
+#[test]
+fn the_manual_has_every_command() {
+    let ran = run(&["man"]);
+    assert_eq!((ran.status, ran.err.as_str()), (0, ""));
+    assert!(
+        ran.out.starts_with(".TH \"TIGMAVRESH\" \"1\""),
+        "{}",
+        ran.first_line()
+    );
+    let commands = commands();
+    assert_eq!(commands.len(), 10);
+    for command in &commands {
+        assert!(
+            ran.out.contains(&format!("\n.SS \"{command}\"\n")),
+            "{command}"
+        );
+    }
+    // every option that a command's help has
+    for command in &commands {
+        let help = run(&[command, "--help"]).out;
+        let words = help
+            .split_whitespace()
+            .filter_map(|word| word.strip_prefix("--"));
+        for option in words {
+            let option = option.trim_end_matches([',', '.']);
+            assert!(
+                ran.out.contains(&format!("\\-\\-{option}")),
+                "{command}: {option}"
+            );
+        }
+    }
+    assert_eq!(
+        ran.out
+            .matches("some of the work could not be done")
+            .count(),
+        1
+    );
+    assert_eq!(ran.out.matches("OUT was written").count(), 2);
+}
+
+/// The manual page is well formed, and is shown as text.
+#[test]
+fn the_manual_can_be_read() {
+    let page = run(&["man"]).out;
+    if let Some(ran) = other("groff", &["-man", "-ww", "-Tascii", "-P-cbou"], &page) {
+        assert_eq!((ran.status, ran.err.as_str()), (0, ""));
+        for words in [
+            "tigmavresh - Opens, checks",
+            "tigmavresh check [OPTIONS] PATH...",
+            "--jobs N",
+        ] {
+            assert!(ran.out.contains(words), "{words}\n{}", ran.out);
+        }
+    }
+}
+
+#[test]
+fn shells_can_complete() {
+    for shell in ["bash", "zsh", "fish"] {
+        let ran = run(&["completions", shell]);
+        assert_eq!((ran.status, ran.err.as_str()), (0, ""));
+        for command in commands() {
+            assert!(ran.out.contains(&command), "{shell}: {command}");
+        }
+        assert!(ran.out.contains("refused"), "{shell}");
+        if let Some(read) = other(shell, &["-n"], &ran.out) {
+            assert_eq!((read.status, read.err.as_str()), (0, ""), "{shell}");
+        }
+    }
+    assert_eq!(run(&["completions", "none"]).status, 2);
+}
+
+/// What bash offers after `tigmavresh check --`, and after `tigmavresh re`.
+#[test]
+fn bash_completes_commands_and_options() {
+    let completions = run(&["completions", "bash"]).out;
+    for (words, offered) in [
+        (
+            "tigmavresh check --",
+            &["--refused", "--json", "--jobs"][..],
+        ),
+        ("tigmavresh re", &["report"]),
+        ("tigmavresh --ex", &["--explain"]),
+    ] {
+        let last = words.split(' ').count() - 1;
+        let ask = format!(
+            "{completions}\nCOMP_WORDS=({words}); COMP_CWORD={last}\n\
+             _tigmavresh tigmavresh \"${{COMP_WORDS[{last}]}}\" \"${{COMP_WORDS[{}]}}\"\n\
+             printf '%s\\n' \"${{COMPREPLY[@]}}\"\n",
+            last - 1
+        );
+        let Some(ran) = other("bash", &["-s"], &ask) else {
+            return;
+        };
+        for one in offered {
+            assert!(
+                ran.out.lines().any(|line| line == *one),
+                "{words}: {}{}",
+                ran.out,
+                ran.err
+            );
+        }
+    }
+}
+
+/// The version names the commit and the kit, as they are asked for here.
+#[test]
+fn the_version_says_what_was_proved() {
+    let top = Path::new(env!("CARGO_MANIFEST_DIR")).join("../..");
+    let said = |program: &str, words: &[&str]| {
+        let output = Command::new(program).args(words).current_dir(&top).output();
+        let output = output.ok().filter(|output| output.status.success())?;
+        let said = String::from_utf8(output.stdout).ok()?;
+        Some(said.lines().next()?.to_string())
+    };
+    let git = [
+        "--git-dir=.git",
+        "--work-tree=.",
+        "rev-parse",
+        "--short",
+        "HEAD",
+    ];
+    let commit = said("git", &git).unwrap_or_else(|| "unknown".to_string());
+    let kit = said("rt", &["version"]).unwrap_or_else(|| "kit unknown".to_string());
+    let ran = run(&["--version"]);
+    assert_eq!(ran.status, 0);
+    let version = env!("CARGO_PKG_VERSION");
+    let expected = ["", "-changed"]
+        .map(|mark| format!("tigmavresh {version} (commit {commit}{mark}, {kit})\n"));
+    assert!(expected.contains(&ran.out), "{} {expected:?}", ran.out);
+}

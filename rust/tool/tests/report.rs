@@ -1,0 +1,207 @@
+//! `report` in a user's hands: every rule that is broken, what is certain of it, and what each lead answers.
+
+mod common;
+
+use std::fs::File;
+
+use common::folder::Folder;
+use common::record::{seal, section};
+use common::{run, sample, samples, Ran};
+use serde_json::{json, Value};
+
+impl Ran {
+    fn json(&self) -> Value {
+        serde_json::from_str(&self.out).unwrap()
+    }
+}
+
+/// The rules that are broken, and whether that is certain.
+fn broken(shown: &Value) -> Vec<(u64, bool)> {
+    let rules = shown["rules"].as_array().unwrap().iter();
+    rules
+        .filter(|rule| rule["broken"] == true)
+        .map(|rule| (rule["number"].as_u64().unwrap(), rule["certain"] == true))
+        .collect()
+}
+
+/// What check accepts keeps every rule, and what it refuses breaks that one first, or some lead is refused with it.
+#[test]
+fn a_report_agrees_with_check() {
+    for entry in samples().read_dir().unwrap() {
+        let name = entry.unwrap().file_name().into_string().unwrap();
+        let (check, report) = (
+            run(&["check", &name, "--json"]),
+            run(&["report", &name, "--json"]),
+        );
+        assert_eq!(
+            (report.status, report.err.as_str()),
+            (check.status, ""),
+            "{name}"
+        );
+        let checked: Value = serde_json::from_str(check.first_line()).unwrap();
+        let shown = report.json();
+        for key in ["file", "bytes", "lead", "lead_count"] {
+            assert_eq!(shown[key], checked[key], "{name}");
+        }
+        assert_eq!(shown["refusal"]["number"], checked["refusal"]["number"]);
+        assert_eq!(shown["rules"].as_array().unwrap().len(), 9);
+        assert_eq!(shown.get("note").is_some(), report.status == 1);
+        let first = match shown["refusal"]["number"].as_u64() {
+            Some(number @ 1..=9) => Some((number, true)),
+            _ => None,
+        };
+        assert_eq!(broken(&shown).first().copied(), first, "{name}");
+        assert_eq!(
+            shown.get("caution").is_some(),
+            first.is_some_and(|first| first.0 < 9)
+        );
+    }
+}
+
+#[test]
+fn a_sound_record_is_reported() {
+    let text = "\
+beat.scp: accepted (418 bytes; 2 leads)
+  Rule                           Answer
+     1  length                   kept
+     2  record check             kept
+     3  Section 0                kept
+     4  places and headers       kept
+     5  section checks           kept
+     6  Section 1                kept
+     7  Section 2                kept
+     8  Sections 3 to 6          kept
+     9  bimodal, step, interval  kept
+
+  Lead      Answer
+     1  I   accepted
+     2  II  accepted
+";
+    let ran = run(&["report", "beat.scp"]);
+    assert_eq!((ran.status, ran.out.as_str()), (0, text));
+    let ran = run(&["report", "007.scp"]);
+    assert_eq!(ran.status, 0);
+    assert!(ran
+        .out
+        .ends_with("\nNo lead is read: there is neither Section 3 nor Section 6\n"));
+}
+
+/// Two rules broken at once: the smaller is certain, the other is not, and both are shown with what was found.
+#[test]
+fn every_rule_that_is_broken_is_shown() {
+    let folder = Folder::new("two-rules");
+    let mut record = sample("refused-9.scp");
+    let at = section(&record, 1);
+    record[at + 16 + 3 + 3] = b'!'; // the NUL of the identifier
+    seal(&mut record);
+    let file = folder.file("two.scp", &record);
+    let ran = run(&["report", &file]);
+    assert_eq!(ran.status, 1);
+    assert_eq!(
+        ran.first_line(),
+        format!("{file}: refused, number 6 (418 bytes)")
+    );
+    for lines in [
+        "     5  section checks           kept\n     6  Section 1                broken\n",
+        "     8  Sections 3 to 6          kept, as it seems\n     9  bimodal, step, interval  broken, as it seems\n",
+        "\nRule 6, Section 1: broken\n  rule   Section 1 is whole fields",
+        "\n  found  tag 2 has no NUL at its end\n",
+        "\nRule 9, bimodal, step, interval: broken, as it seems\n  found  the interval is 1000 in Section 5 and 2000",
+        "\nNo lead is read: all are refused, number 6\n",
+        "\nRules 7 to 9 were asked alone, of bytes that break rule 6: the answer is a hint, and not certain.\n",
+        "\nThe answers are the proved library's; what was found is the tool's own look at the bytes, to explain them.\n",
+    ] {
+        assert!(ran.out.contains(lines), "{lines}\n{}", ran.out);
+    }
+    let shown = run(&["report", &file, "--json"]).json();
+    assert_eq!(broken(&shown), [(6, true), (9, false)]);
+    assert_eq!(shown["rules"][8]["name"], "bimodal, step, interval");
+    let found = json!(["the interval is 1000 in Section 5 and 2000 in Section 6"]);
+    assert_eq!(shown["rules"][8]["found"], found);
+    assert_eq!(shown["leads"], json!([]));
+}
+
+/// Each lead has an answer of its own.
+#[test]
+fn every_lead_is_read() {
+    for number in [12, 13, 14] {
+        let name = format!("refused-{number}.scp");
+        let ran = run(&["report", &name]);
+        assert_eq!(ran.status, 1);
+        let rows = format!("\n     1  I   accepted\n     2  II  refused, number {number}\n");
+        assert!(ran.out.contains(&rows), "{}", ran.out);
+        assert!(ran
+            .out
+            .contains(&format!("\nLead 2, II: refused, number {number}\n  rule ")));
+        let shown = run(&["report", &name, "--json"]).json();
+        assert_eq!(broken(&shown), []);
+        let leads = shown["leads"].as_array().unwrap();
+        assert_eq!((leads.len(), &leads[0]["refusal"]), (2, &json!(null)));
+        assert_eq!(leads[1]["refusal"]["number"], number);
+        assert!(leads[0].get("samples").is_none());
+    }
+    let ran = run(&["report", "refused-10.scp"]);
+    let text = "\nNo lead is read: all are refused, number 10\n  rule   what is asked for is in the record\n  found  Section 6 is absent\n";
+    assert!(ran.out.contains(text), "{}", ran.out);
+}
+
+/// The second lead of two that are refused is shown as well.
+#[test]
+fn all_leads_that_are_refused_are_shown() {
+    let folder = Folder::new("two-leads");
+    let mut record = sample("own-tables.scp");
+    let at = section(&record, 6);
+    let end = at + u32::from_le_bytes([4, 5, 6, 7].map(|k| record[at + k])) as usize;
+    record[at + 16 + 10..end].fill(0xFF);
+    seal(&mut record);
+    let file = folder.file("leads.scp", &record);
+    let shown = run(&["report", &file, "--json"]).json();
+    assert_eq!(
+        (&shown["refusal"]["number"], &shown["lead"]),
+        (&json!(12), &json!(1))
+    );
+    for lead in shown["leads"].as_array().unwrap() {
+        assert_eq!(lead["refusal"]["number"], 12, "{shown}");
+    }
+}
+
+/// Of a file that is too long not all is read, and no more is asked than its length.
+#[test]
+fn a_long_file_is_asked_for_its_length() {
+    let folder = Folder::new("long-report");
+    let file = folder.file("long.scp", &sample("beat.scp"));
+    let long = File::options().write(true).open(&file).unwrap();
+    long.set_len(1 << 32).unwrap();
+    let ran = run(&["report", &file, "--json"]);
+    let shown = ran.json();
+    assert_eq!((ran.status, &shown["bytes"]), (1, &json!(1_u64 << 32)));
+    assert_eq!(broken(&shown), [(1, true)]);
+    assert_eq!(shown["rules"].as_array().unwrap().len(), 1);
+    assert!(shown.get("caution").is_none());
+}
+
+/// Whatever the bytes are, the first rule that is broken is the refusal.
+#[test]
+fn damaged_records_are_reported() {
+    let folder = Folder::new("damaged");
+    let mut record = sample("beat.scp");
+    for (number, damage) in [
+        (2, (|record| record[300] ^= 1) as fn(&mut Vec<u8>)),
+        (1, |record| record.truncate(200)),
+        (1, |record| record.truncate(20)),
+        (1, |record| record.clear()),
+    ] {
+        damage(&mut record);
+        let file = folder.file("damaged.scp", &record);
+        let ran = run(&["report", &file]);
+        assert!(
+            ran.first_line()
+                .contains(&format!("refused, number {number} (")),
+            "{}",
+            ran.out
+        );
+        let shown = run(&["report", &file, "--json"]).json();
+        assert_eq!(broken(&shown)[0], (number, true));
+        assert!(broken(&shown)[1..].iter().all(|rule| !rule.1));
+    }
+}
