@@ -4,7 +4,7 @@ from __future__ import annotations
 
 import ctypes
 from array import array
-from typing import Iterable, NamedTuple, Protocol, Tuple
+from typing import Iterable, NamedTuple, Protocol
 
 from ._lending import Bytes, bytes_of, number, samples_of
 from ._library import SCP_RECORD_MAX, SCP_SAMPLES_MAX, SCP_STREAM_MAX, SCP_TABLES_MAX, scp
@@ -61,7 +61,7 @@ def encode(samples: Iterable[int], order: int, section2: Bytes = b"") -> Coded:
 
 
 def write(
-    fields: Iterable[Tuple[int, Bytes]],
+    fields: Iterable[tuple[int, Bytes]],
     leads: Iterable[_AnyLead],
     *,
     step: int,
@@ -97,7 +97,7 @@ def write(
     return ctypes.string_at(room, written.bytes)
 
 
-def _section1(fields: Iterable[Tuple[int, Bytes]]) -> bytes:
+def _section1(fields: Iterable[tuple[int, Bytes]]) -> bytes:
     """Section 1's data: the fields, then the end mark."""
     parts = []
     for tag, data in fields:
