@@ -6,7 +6,7 @@ use mathlib.Core.List.{List, [], _∷_, _++_, map, append-nil}
 use mathlib.Core.Option.{Option, none, some}
 use native.Mathlib.Omega.{arith}
 use borrow.Author.Tests.{leb-true}
-use borrow.Rule.Slice.PartMut.{midOf, putMid, mid-len}
+use borrow.Rule.Slice.PartMut.{putMid}
 use lib.Dec.{leb, eqb}
 use lib.IntN.{ℤ}
 use lib.ListN.{length, getD, take, drop, length-append, drop-of-length-le}
@@ -22,7 +22,7 @@ use Rattle.encode.specs.Encoding.{tablesGiven}
 use Rattle.encode.specs.InnerEncode.{bitsFound, Sized}
 use Rattle.encode.proofs.Unique.{found-unique}
 use Rattle.compose.specs.Writing.{total, cut, FoundAll, done, lead, behind, streamsOf}
-use Rattle.compose.specs.InnerSizes.{sizeFound, numberWith, numberFor, SizedAs, StreamsFor}
+use Rattle.compose.specs.InnerSizes.{sizeFound, numberWith, numberFor, SizedAs, StreamOf, StreamsFor}
 use Rattle.compose.proofs.Sizes.{total-back, room-back, cut-back, lent}
 
 -- ---- what is known of one lead
@@ -47,15 +47,11 @@ number-zero bs later = go (leb (bytesFor (length bs)) 65535) refl
     go true e z = (leb-true (bytesFor (length bs)) 65535 e, z)
     go false e z = absurd (last (eqb later 15) z)
 
--- the stream of lead k, where all leads have the number 0
-abbrev Known : List ℕ → ℕ → List ℕ → List ℤ → List ℕ → ℕ → Type 0
-Known s2 order counts xs sizes k =
-    (bs : List ℕ) × Shortest (tablesGiven s2) (differences order (take (getD counts k 0) (drop (total (take k counts)) xs))) bs
-    × (bytesFor (length bs) ≤ 65535) × (bytesFor (length bs) ≡ getD sizes k 0)
-
+-- lead k has a stream, where all leads have the number 0
 known-at : (s2 : List ℕ) (order : ℕ) (counts : List ℕ) (xs : List ℤ) (founds : List (Option (List ℕ))) → FoundAll s2 order
     (cut counts xs) founds
-    → numberFor founds ≡ 0 → (k : ℕ) → k < length counts → Known s2 order counts xs (map sizeFound founds) k
+    → numberFor founds ≡ 0 → (k : ℕ) → k < length counts
+    → StreamOf s2 order (take (getD counts k 0) (drop (total (take k counts)) xs)) (getD (map sizeFound founds) k 0)
 unfolding cut numberFor total
 known-at s2 order [] xs founds all z k h = absurd (omega arith)
 known-at s2 order (c ∷ counts) xs (none ∷ founds) (lead F all) z k h = absurd (omega arith)
@@ -66,6 +62,21 @@ known-at s2 order (c ∷ counts) xs (some bs ∷ founds) (lead F all) z (suc k) 
     let w = known-at s2 order counts (drop c xs) founds all (number-zero bs (numberFor founds) z .1) k (omega arith) in
     let e : drop (total (take k counts)) (drop c xs) ≡ drop (c + total (take k counts)) xs = drop-drop (total (take k counts)) c xs in
     (w .0, rw e at (w .1), w .2, w .3)
+
+module _ (s2 : List ℕ) (order : ℕ) (xs : List ℤ) {size : ℕ} (w : StreamOf s2 order xs size) where
+  -- the search finds it
+  pub bits-sized : (bits : ℕ) → Sized (tablesGiven s2) (differences order xs) bits → (bits < 524281) × (bytesFor bits ≡ size)
+  bits-sized bits F =
+      let e : F .0 ≡ some (w .0) = found-unique (tablesGiven s2) (differences order xs) (F .0) (some (w .0)) (F .1) (w .1) in
+      let b : bits ≡ min 524281 (length (w .0)) = F .2 ∙ ap bitsFound e in
+      (omega (arith, b, w .2), omega (arith, b, w .2, w .3))
+
+  -- it fills its part
+  pub put-whole : (part zs bs : List ℕ) → length part ≡ size → Shortest (tablesGiven s2) (differences order xs) bs
+      → zs ≡ packed bs ++ drop (bytesFor (length bs)) part → zs ≡ packed bs
+  put-whole part zs bs long f put =
+      let one = ap (λ (b : List ℕ). bytesFor (length b)) (unique (tablesGiven s2) (differences order xs) bs (w .0) f (w .1)) in
+      put ∙ rw (drop-of-length-le part {i = bytesFor (length bs)} (omega (arith, one, w .3)), append-nil (packed bs))
 
 -- ---- one lead more
 
@@ -103,30 +114,17 @@ module _ (s2 : List ℕ) (order : ℕ) (counts : List ℕ) (xs : List ℤ) (size
   abbrev samples : List ℤ
   samples = take (at - (at - count)) (drop (at - count) xs)
 
-  known-here : (bs : List ℕ) × Shortest (tablesGiven s2) (differences order samples) bs × (bytesFor (length bs) ≤ 65535)
-      × (bytesFor (length bs) ≡ getD sizes (k - 1) 0)
-  known-here =
+  -- the second search finds the stream that was sized
+  pub stream-here : (size : ℕ) → size ≡ getD sizes (k - 1) 0 → StreamOf s2 order samples size
+  stream-here size is =
       let w = known-at s2 order counts xs (S .founds) (S .all) (sym (S .says)) (k - 1) (omega arith) in
       let e : total (take (k - 1) counts) ≡ at - count =
       omega (arith, total-split counts (k - 1), total-back counts k h g, room-back counts k h g at all here sum) in
-      (w .0, rw (lent counts k h g at all here sum xs) (rw e at (w .1)), w .2, rw (S .each) (w .3))
-
-  one-stream : (bs : List ℕ) → Shortest (tablesGiven s2) (differences order samples) bs → bs ≡ known-here .0
-  one-stream bs f = unique (tablesGiven s2) (differences order samples) bs (known-here .0) f (known-here .1)
-
-  -- the second search finds the stream that was sized
-  pub bits-sized : (bits : ℕ) → Sized (tablesGiven s2) (differences order samples) bits → (bits < 524281) ×
-      (bytesFor bits ≡ getD sizes (k - 1) 0)
-  bits-sized bits F =
-      let w = known-here in
-      let e : F .0 ≡ some (w .0) = found-unique (tablesGiven s2) (differences order samples) (F .0) (some (w .0)) (F .1) (w .1) in
-      let b : bits ≡ min 524281 (length (w .0)) = F .2 ∙ ap bitsFound e in
-      (omega (arith, b, w .2), omega (arith, b, w .2, w .3))
+      (w .0, rw (lent counts k h g at all here sum xs) (rw e at (w .1)), w .2, rw (is, S .each) (w .3))
 
   -- its bytes stand before those of the leads behind
   pub put-more : (part zs : List ℕ) (from : ℕ) → from ≤ length part → getD sizes (k - 1) 0 ≤ from
-      → ((bs : List ℕ) → Shortest (tablesGiven s2) (differences order samples) bs
-      → zs ≡ packed bs ++ drop (bytesFor (length bs)) (midOf (from - getD sizes (k - 1) 0) (from - (from - getD sizes (k - 1) 0)) part))
+      → ((bs : List ℕ) → Shortest (tablesGiven s2) (differences order samples) bs → zs ≡ packed bs)
       → ((streams : List (List ℕ)) → StreamsFor s2 order (cut (drop k counts) (drop at xs)) streams → drop from part ≡ joined streams)
       → (streams : List (List ℕ)) → StreamsFor s2 order (cut (drop (k - 1) counts) (drop (at - count) xs)) streams
       → drop (from - getD sizes (k - 1) 0) (putMid (from - getD sizes (k - 1) 0) (from - (from - getD sizes (k - 1) 0)) part zs)
@@ -143,10 +141,7 @@ module _ (s2 : List ℕ) (order : ℕ) (counts : List ℕ) (xs : List ℤ) (size
       go (some bs ∷ founds) (lead F rest) e =
           let w = streams-split bs founds streams e in
           let f : Shortest (tablesGiven s2) (differences order samples) bs = rw (lent counts k h g at all here sum xs) F in
-          let p = from - getD sizes (k - 1) 0 in
-          let long : length (midOf p (from - p) part) ≤ bytesFor (length bs) =
-          omega (arith, mid-len p from part l, known-here .3, ap (λ (b : List ℕ). bytesFor (length b)) (one-stream bs f)) in
-          rw (w .2, put bs f, drop-of-length-le (midOf p (from - p) part) long, append-nil (packed bs), later (w .0) (founds, rest, w .1))
+          rw (w .2, put bs f, later (w .0) (founds, rest, w .1))
 
 -- no lead is left
 pub put-none : (s2 : List ℕ) (order : ℕ) (counts : List ℕ) (xs : List ℤ) (part : List ℕ) (streams : List (List ℕ))

@@ -1,5 +1,5 @@
 -- The sizes of the leads' streams, before any is written. No public contract rests on this.
-use Prim.Native.Nat.{ℕ}
+use Prim.Native.Nat.{ℕ, _≤_}
 use mathlib.Core.Path.{_≡_}
 use mathlib.Core.Bool.{cond}
 use mathlib.Core.List.{List, [], _∷_, map}
@@ -8,6 +8,9 @@ use lib.Dec.{leb, eqb}
 use lib.IntN.{ℤ}
 use lib.ListN.{length}
 use Rattle.packing.specs.Packing.{bytesFor}
+use Rattle.samples.specs.Differences.{differences}
+use Rattle.shortest.specs.Shortest.{Shortest}
+use Rattle.encode.specs.Encoding.{tablesGiven}
 use Rattle.encode.specs.InnerEncode.{bitsFound}
 use Rattle.compose.specs.Writing.{FoundAll, streamsOf}
 
@@ -30,6 +33,11 @@ pub record SizedAs (s2 : List ℕ) (order : ℕ) (xss : List (List ℤ)) (number
   pub all : FoundAll s2 order xss founds
   pub says : number ≡ numberFor founds
   pub each : sizes ≡ map sizeFound founds
+
+-- the samples have a shortest stream, of so many bytes
+abbrev pub StreamOf : List ℕ → ℕ → List ℤ → ℕ → Type 0
+StreamOf s2 order xs size =
+    (bs : List ℕ) × Shortest (tablesGiven s2) (differences order xs) bs × (bytesFor (length bs) ≤ 65535) × (bytesFor (length bs) ≡ size)
 
 -- the packed streams of leads that have one each
 abbrev pub StreamsFor : List ℕ → ℕ → List (List ℤ) → List (List ℕ) → Type 0

@@ -8,12 +8,15 @@ ghost use Prim.Native.Nat.{ℕ, suc, _+_, _*_, _<_, _≤_, min};
 ghost use lib.ListN.{length, take};
 ghost use Rattle.wire.specs.Rules.{allIn};
 ghost use Rattle.compiled.specs.InnerForm.{Holding};
+ghost use Rattle.samples.specs.Differences.{differences};
+ghost use Rattle.packing.specs.Packing.{packed};
+ghost use Rattle.shortest.specs.Shortest.{Shortest};
 ghost use Rattle.layout.specs.Layout.{sizeFor, sectionBytes, noLetters, joined, streamsData, givenSize, givenSection, recordSize};
 ghost use Rattle.encode.specs.Encoding.{tablesGiven, givenRight};
 ghost use Rattle.encode.specs.InnerEncode.{bitsFound, clearedIf};
 ghost use Rattle.compose.specs.Writing.{Job, jobOf, total, longest, leadAsked, jobRight, jobRefusal, cut, writtenAs, Wrote};
 ghost use Rattle.compose.specs.InnerJob.{Sound, Fitting, Put, refusalFor, Answered};
-ghost use Rattle.compose.specs.InnerSizes.{numberWith, SizedAs, StreamsFor};
+ghost use Rattle.compose.specs.InnerSizes.{numberWith, SizedAs, StreamOf, StreamsFor};
 
 // What writing a record answers: 0 or a refusal number, and on a refusal nothing else; the record's length.
 #[repr(C)]
@@ -204,8 +207,28 @@ fn size_streams(
     number
 }
 
-// The streams that were sized, one behind another, from the last lead back; each is looked for again, so that its way is in the work
-// space when it is put.
+// One lead's stream, which was sized: it is looked for again, so that its way is in the work space when it is put.
+fn put_lead(
+    section2: &[u8],
+    tab: &[u32],
+    xs: &[i16],
+    order: usize,
+    work: &mut [u8],
+    part: &mut [u8],
+)
+    requires { ⌜ (givenRight (now section2) ≡ true) × Holding (tablesGiven (now section2)) (now tab) ⌝ }
+    requires { ⌜ (length (now xs) ≤ 65536) × (length (now xs) * length (tablesGiven (now section2)) ≤ length (now work))
+        × StreamOf (now section2) order (now xs) (length (now part)) ⌝ }
+    ensures { λ _. ⌜ ((bs : List ℕ) → Shortest (tablesGiven (now (section2 .entry))) (differences order (now (xs .entry))) bs
+        → now (part .exit) ≡ packed bs)
+        × (length (now (tab .entry)) ≡ 0 → now (work .exit) ≡ now (work .entry)) ⌝ }
+{
+    let n = encode::table_count(section2);
+    let bits = encode::stream_bits(tab, n, xs, order, work);
+    encode::put_stream(tab, n, xs, order, work, bits, part);
+}
+
+// The streams that were sized, one behind another, from the last lead back.
 fn put_streams(
     section2: &[u8],
     tab: &[u32],
@@ -226,19 +249,23 @@ fn put_streams(
         → now (part .exit) ≡ joined streams)
         × (length (now (tab .entry)) ≡ 0 → now (work .exit) ≡ now (work .entry)) ⌝ }
 {
-    let n = encode::table_count(section2);
     let mut k = counts.len();
     let mut at = xs.len();
     let mut from = part.len();
     while 0 < k {
-        let lead = k - 1;
+        k -= 1;
         let end = at;
-        at = end - counts[lead] as usize;
+        at -= counts[k] as usize;
         let to = from;
-        from = to - sizes[lead] as usize;
-        let bits = encode::stream_bits(tab, n, &xs[at..end], order, work);
-        encode::put_stream(tab, n, &xs[at..end], order, work, bits, &mut part[from..to]);
-        k = lead;
+        from -= sizes[k] as usize;
+        put_lead(
+            section2,
+            tab,
+            &xs[at..end],
+            order,
+            work,
+            &mut part[from..to],
+        );
     }
 }
 
