@@ -13,11 +13,10 @@ use Rattle.wire.specs.Rules.{allIn}
 use Rattle.wire.proofs.Laws.{all-at}
 use Rattle.header.specs.Header.{section1Right}
 use Rattle.encode.specs.Encoding.{tablesGiven, givenRight}
-use Rattle.compiled.specs.InnerForm.{Holding}
 use Rattle.encode.proofs.Laws.{passed}
 use Rattle.compose.specs.declared.Head.{Head}
 use Rattle.compose.specs.Writing.{Job, jobOf, total, longest, leadAsked, jobRight, jobRefusal}
-use Rattle.compose.specs.InnerJob.{Sound}
+use Rattle.compose.specs.InnerJob.{Sound, Listed}
 
 -- ---- what is asked
 
@@ -93,10 +92,6 @@ asked-at firsts counts t k h =
     let a = and-eq-true-iff (leb 1 n) (leb n 65536 && ends) .0 (all-at (leadAsked firsts counts) 0 (length counts) t k (omega arith) h) in
     (leb-true 1 n (a .0), leb-true n 65536 (and-eq-true-iff (leb n 65536) ends .0 (a .1) .0))
 
-pub asked-some : (firsts counts : List ℕ) → allIn 0 (length counts) (leadAsked firsts counts) ≡ true → (k : ℕ) → k < length counts
-    → 1 ≤ getD counts k 0
-asked-some firsts counts t k h = asked-at firsts counts t k h .0
-
 longest-most : (counts : List ℕ) (m : ℕ) → ((k : ℕ) → k < length counts → getD counts k 0 ≤ m) → longest counts ≤ m
 unfolding longest
 longest-most [] m h = omega arith
@@ -149,11 +144,11 @@ module _ (j : Job) (work : ℕ) (z : jobRefusal j work ≡ 0) where
       let d = passed enough 10 0 (c .1) in
       (a .0, c .0, leb-true (longest (j .counts) * length (tablesGiven (j .section2))) work (d .0))
 
-  pub job-given : givenRight (j .section2) ≡ true
-  job-given = passes .1
-
-  pub job-sound : (tab : List ℕ) → Holding (tablesGiven (j .section2)) tab → Sound j tab work
-  job-sound tab held =
+  pub job-sound : Sound (j .section2) (j .counts) (j .samples) work × (length (j .counts) ≤ 32) × (j .order ≤ 2)
+  job-sound =
       let r = right-says j (passes .0) in
       let most = longest-most (j .counts) 65536 (λ k l. asked-at (j .firsts) (j .counts) (r .5) k l .1) in
-      (r .0, r .1, r .2, r .3, r .4, most, passes .2, r .5, passes .1, held)
+      ((passes .1, most, passes .2, r .4), r .0, r .3)
+
+  pub job-listed : Listed (j .firsts) (j .counts) (j .ids)
+  job-listed = let r = right-says j (passes .0) in (r .1, r .2, r .0, λ k l. asked-at (j .firsts) (j .counts) (r .5) k l .0)

@@ -1,28 +1,30 @@
 -- What is found decides: the refusals behind the search and what is answered. Assumes nothing.
-use Prim.Native.Nat.{ℕ, zero, suc, _+_, _*_, _≤_, min}
-use mathlib.Core.Path.{_≡_, refl, sym, ap, _∙_, subst}
+use Prim.Native.Nat.{ℕ, zero, suc, _<_, _≤_, min}
+use mathlib.Core.Path.{_≡_, refl, sym, ap, ap₂, _∙_, subst}
 use mathlib.Core.Bool.{Bool, true, false, _&&_, cond}
 use mathlib.Core.List.{List, [], _∷_, _++_, map}
 use mathlib.Core.Logic.{_⊎_, inl, inr}
 use mathlib.Core.Option.{Option, none, some}
 use native.Mathlib.Omega.{arith}
-use borrow.Author.Tests.{lt-leb, leb-true, leb-false, eq-eqb, eqb-true, eqb-false}
+use borrow.Author.Tests.{le-leb, lt-leb, leb-true, eq-eqb, ne-eqb, eqb-true, eqb-false}
 use lib.Dec.{leb, eqb}
-use lib.ListN.{length, drop}
+use lib.IntN.{ℤ}
+use lib.ListN.{length, take, drop}
 use Rattle.wire.specs.Rules.{unless}
 use Rattle.packing.specs.Packing.{bytesFor, packed}
 use Rattle.packing.proofs.Laws.{length-packed}
-use Rattle.layout.specs.Layout.{leadsData, streamsData, recordSize}
+use Rattle.layout.specs.Layout.{sectionBytes, noLetters, leadsData, streamsData, recordBytes}
 use Rattle.layout.proofs.Laws.{length-leadsData, length-recordBytes}
-use Rattle.encode.specs.InnerEncode.{clearedIf, heldFor}
-use Rattle.encode.proofs.Laws.{cleared-after}
+use Rattle.encode.specs.Encoding.{workAfter}
 use Rattle.compose.specs.declared.Written.{Written}
-use Rattle.compose.specs.Writing.{Job, total, jobRefusal, cut, streamsOf, allShort, recordOf, foundRefusal, writtenAs}
+use Rattle.compose.specs.declared.Head.{Head}
+use Rattle.compose.specs.Writing.{Job, jobOf, jobRefusal, cut, streamsOf, allShort, recordOf, foundRefusal, writtenAs, outAs}
 use Rattle.compose.specs.Writing.{Wrote, refused, searched}
-use Rattle.compose.specs.InnerSizes.{numberWith, numberFor, SizedAs, StreamsFor}
-use Rattle.compose.specs.InnerJob.{refusalFor, Answered}
+use Rattle.compose.specs.InnerSizes.{numberWith, numberFor, SizedAs}
+use Rattle.compose.specs.InnerJob.{frontSize, sizeWith, refusalFor, answerOf, Streamed}
+use Rattle.compose.proofs.Laws.{job-listed}
 use Rattle.compose.proofs.Streams.{sizes-streams}
-use Rattle.compose.proofs.Parts.{length-data}
+use Rattle.compose.proofs.Parts.{length-data, size-parts}
 
 -- ---- the number of all leads
 
@@ -70,21 +72,48 @@ nothing-refused number size room = go (eqb number 0) refl (leb size 1048576) ref
     go true e false f r g z = absurd (omega arith)
     go false e s f r g z = absurd (eqb-false number 0 e z)
 
-module _ (j : Job) (sizes : List ℕ) (number size : ℕ) (firsts : length (j .firsts) ≡ length (j .counts))
-    (ids : length (j .ids) ≡ length (j .counts))
-    (long : length sizes ≡ length (j .counts)) (S : SizedAs (j .section2) (j .order) (cut (j .counts) (j .samples)) number sizes)
-    (sized : size ≡ min 1048577 (recordSize (length (j .section1)) (length (j .section2)) (2 + 9 * length (j .counts))
-    (6 + 2 * length (j .counts) + total sizes))) where
-  -- the streams, where the number is 0
-  sizes-are : (streams : List (List ℕ)) → number ≡ 0 → streamsOf (S .founds) ≡ some streams → sizes ≡ map length streams
-  sizes-are streams z e =
-      sizes-streams (subst (λ (n : ℕ). SizedAs (j .section2) (j .order) (cut (j .counts) (j .samples)) n sizes) z S) (S .founds, S .all, e)
+-- what is answered where nothing is refused
+pub answer-zero : (number size room : ℕ) (r : Written) → r ≡ answerOf (refusalFor number size room) size → r .refusal ≡ 0
+    → (refusalFor number size room ≡ 0) × (r .bytes ≡ size)
+answer-zero number size room r = go (refusalFor number size room)
+  where
+    go : (n : ℕ) → r ≡ answerOf n size → r .refusal ≡ 0 → (n ≡ 0) × (r .bytes ≡ size)
+    go zero e z = (refl, ap (λ (w : Written). w .bytes) e)
+    go (suc n) e z = absurd (omega (arith, ap (λ (w : Written). w .refusal) e))
 
-  length-record : (streams : List (List ℕ)) → sizes ≡ map length streams
-      → length (recordOf j streams) ≡ recordSize (length (j .section1)) (length (j .section2)) (2 + 9 * length (j .counts))
-      (6 + 2 * length (j .counts) + total sizes)
+-- what is answered, by the record's length up to 1,048,577
+module _ (number size room : ℕ) where
+  pub judged-number : (number ≡ 0 → ⊥) → record { refusal = number; bytes = 0 } ≡ answerOf (refusalFor number size room) size
+  judged-number h = rw (ne-eqb number 0 h) (go number h)
+    where
+      go : (n : ℕ) → (n ≡ 0 → ⊥) → record { refusal = n; bytes = 0 } ≡ answerOf n size
+      go zero g = absurd (g refl)
+      go (suc n) g = refl
+
+  module _ (z : number ≡ 0) (m : ℕ) (is : m ≡ min 1048577 size) where
+    pub judged-long : 1048576 < m → record { refusal = 16; bytes = 0 } ≡ answerOf (refusalFor number size room) size
+    judged-long l = rw (eq-eqb number 0 z, lt-leb size 1048576 (omega arith))
+
+    pub judged-room : m ≤ 1048576 → room < m → record { refusal = 11; bytes = 0 } ≡ answerOf (refusalFor number size room) size
+    judged-room l g = rw (eq-eqb number 0 z, le-leb size 1048576 (omega arith), lt-leb size room (omega arith))
+
+    pub judged-fits : m ≤ 1048576 → m ≤ room → record { refusal = 0; bytes = m } ≡ answerOf (refusalFor number size room) size
+    judged-fits l g =
+        let e : m ≡ size = omega arith in
+        rw (eq-eqb number 0 z, ← e, le-leb m 1048576 l, le-leb m room g)
+
+module _ (j : Job) (sizes : List ℕ) (number : ℕ) (firsts : length (j .firsts) ≡ length (j .counts))
+    (ids : length (j .ids) ≡ length (j .counts)) (long : length sizes ≡ length (j .counts))
+    (S : SizedAs (j .section2) (j .order) (cut (j .counts) (j .samples)) number sizes) where
+  abbrev size : ℕ
+  size = sizeWith (length (j .section1)) (length (j .section2)) sizes
+
+  -- the record is so long, where the number is 0
+  length-record : (streams : List (List ℕ)) → number ≡ 0 → streamsOf (S .founds) ≡ some streams → length (recordOf j streams) ≡ size
   unfolding recordOf
-  length-record streams are =
+  length-record streams z e =
+      let short = subst (λ (n : ℕ). SizedAs (j .section2) (j .order) (cut (j .counts) (j .samples)) n sizes) z S in
+      let are : sizes ≡ map length streams = sizes-streams short (S .founds, S .all, e) in
       length-recordBytes (j .version) (j .section1) (j .section2) (leadsData (j .flags) (j .firsts) (j .counts) (j .ids))
       (streamsData (j .step) (j .interval) (j .order) streams)
       ∙ rw (
@@ -97,69 +126,88 @@ module _ (j : Job) (sizes : List ℕ) (number size : ℕ) (firsts : length (j .f
   unfolding foundRefusal
   refusal-is room = go (judged (S .founds))
     where
-      fits : (streams : List (List ℕ)) → number ≡ 0 → streamsOf (S .founds) ≡ some streams
-          → unless (leb size 1048576) 16 (unless (leb size room) 11 0)
-          ≡ unless (leb (length (recordOf j streams)) 1048576) 16 (unless (leb (length (recordOf j streams)) room) 11 0)
-      fits streams z e = cases (leb (length (recordOf j streams)) 1048576) refl
-        where
-          cases : (b : Bool) → leb (length (recordOf j streams)) 1048576 ≡ b
-              → unless (leb size 1048576) 16 (unless (leb size room) 11 0) ≡ unless b 16
-              (unless (leb (length (recordOf j streams)) room) 11 0)
-          cases true f =
-              let n = length-record streams (sizes-are streams z e) in
-              let same : size ≡ length (recordOf j streams) = omega (arith, n, sized, leb-true (length (recordOf j streams)) 1048576 f) in
-              rw (same, f)
-          cases false f =
-              let n = length-record streams (sizes-are streams z e) in
-              rw (lt-leb size 1048576 (omega (arith, n, sized, leb-false (length (recordOf j streams)) 1048576 f)))
-
       short : (streams : List (List ℕ)) → streamsOf (S .founds) ≡ some streams → (s : Bool) → number ≡ cond s 0 16
           → refusalFor number size room ≡ unless (s && leb (length (recordOf j streams)) 1048576) 16
           (unless (leb (length (recordOf j streams)) room) 11 0)
-      short streams e true n = rw (eq-eqb number 0 n) (fits streams n e)
+      short streams e true n = rw (eq-eqb number 0 n, length-record streams n e)
       short streams e false n = rw n
 
       go : Judged (S .founds) → refusalFor number size room ≡ foundRefusal j room (streamsOf (S .founds))
       go (inl (e, n)) = let is : number ≡ 15 = S .says ∙ n in rw (e, is)
       go (inr (streams, e, n)) = rw e (short streams e (allShort streams) (S .says ∙ n))
 
-  -- a refusal
-  pub answered-refused : (out : List ℕ) (n : ℕ) (r : Written) → n ≡ refusalFor number size (length out) → (n ≡ 0 → ⊥)
-      → ((k : Job) (m : ℕ) (streams : Option (List (List ℕ))) → n ≡ suc m → r ≡ writtenAs k (suc m) streams) → Answered j out r out
-  answered-refused out zero r e h answer = absurd (h refl)
-  answered-refused out (suc m) r e h answer =
-      let is = e ∙ refusal-is (length out) in
-      (S .founds, S .all, rw (← is) (answer j m (streamsOf (S .founds)) refl), rw (← is) refl)
-
-  -- the record
-  pub answered-put : (out ys : List ℕ) → refusalFor number size (length out) ≡ 0
-      → ((streams : List (List ℕ)) → StreamsFor (j .section2) (j .order) (cut (j .counts) (j .samples)) streams → ys ≡ recordOf j streams)
-      → Answered j out record { refusal = 0; bytes = size } (ys ++ drop size out)
-  answered-put out ys e put = go (judged (S .founds))
-    where
-      go : Judged (S .founds) → Answered j out record { refusal = 0; bytes = size } (ys ++ drop size out)
-      go (inl (f, n)) = absurd (omega (arith, nothing-refused number size (length out) e .0, S .says ∙ n))
-      go (inr (streams, f, n)) =
-          let w = nothing-refused number size (length out) e in
-          let is : foundRefusal j (length out) (some streams) ≡ 0 = ap (foundRefusal j (length out)) (sym f) ∙ sym
-          (refusal-is (length out)) ∙ e in
-          let same : size ≡ length (recordOf j streams) = omega (arith, length-record streams (sizes-are streams (w .0) f), sized, w .1) in (
-            S .founds,
-            S .all,
-            rw (f, is, ← same),
-            rw (f, is, ← same)
-                (ap (λ (l : List ℕ). l ++ drop size out) (put streams (S .founds, S .all, f))),
-          )
-
 -- ---- the job
 
 module _ (j : Job) (work out : List ℕ) where
-  pub wrote-refused : (n : ℕ) (r : Written) → n ≡ jobRefusal j (length work) → (n ≡ 0 → ⊥)
-      → ((k : Job) (m : ℕ) (streams : Option (List (List ℕ))) → n ≡ suc m → r ≡ writtenAs k (suc m) streams) → Wrote j work out r work out
-  wrote-refused zero r e h answer = absurd (h refl)
-  wrote-refused (suc m) r e h answer = rw (answer j m none refl) (refused m (sym e))
+  pub wrote-refused : (n : ℕ) (r : Written) → n ≡ jobRefusal j (length work) → (n ≡ 0 → ⊥) → r ≡ record { refusal = n; bytes = 0 }
+      → Wrote j work out r work out
+  wrote-refused zero r e h f = absurd (h refl)
+  wrote-refused (suc m) r e h f = rw f (refused m (sym e))
 
-  pub wrote-searched : (r : Written) (work′ out′ : List ℕ) (held : ℕ) → jobRefusal j (length work) ≡ 0 → Answered j out r out′
-      → held ≡ heldFor (length (j .section2)) → work′ ≡ clearedIf held work → Wrote j work out r work′ out′
-  wrote-searched r work′ out′ held e w h cleared =
-      rw (cleared, cleared-after (j .section2) work held h, w .2, w .3) (searched (w .0) e (w .1))
+module _ (s1 s2 : List ℕ) (head : Head) (firsts counts ids : List ℕ) (xs : List ℤ) (work out : List ℕ)
+    (asked : jobRefusal (jobOf s1 s2 head firsts counts ids xs) (length work) ≡ 0)
+    (r : Written) (mid : List ℕ) (F : Streamed (length s1) s2 head counts xs out r mid) where
+  abbrev j : Job
+  j = jobOf s1 s2 head firsts counts ids xs
+
+  abbrev founds : List (Option (List ℕ))
+  founds = F .sized .founds
+
+  decided : refusalFor (F .number) (sizeWith (length s1) (length s2) (F .sizes)) (length out)
+      ≡ foundRefusal j (length out) (streamsOf founds)
+  decided =
+      let l = job-listed j (length work) asked in
+      refusal-is j (F .sizes) (F .number) (l .0) (l .1) (F .each) (F .sized) (length out)
+
+  searched-as : (n : ℕ) → foundRefusal j (length out) (streamsOf founds) ≡ n
+      → Wrote j work out (writtenAs j n (streamsOf founds)) (workAfter s2 work) (outAs j n (streamsOf founds) out)
+  searched-as n is = rw (← is) (searched founds asked (F .sized .all))
+
+  -- a refusal
+  pub wrote-judged : (r .refusal ≡ 0 → ⊥) → (work′ : List ℕ) → work′ ≡ workAfter s2 work → Wrote j work out r work′ mid
+  wrote-judged h work′ cleared =
+      rw (cleared, F .same h) (go (foundRefusal j (length out) (streamsOf founds)) refl (rw decided at (F .answer)))
+    where
+      go : (n : ℕ) → foundRefusal j (length out) (streamsOf founds) ≡ n
+          → r ≡ answerOf n (sizeWith (length s1) (length s2) (F .sizes)) → Wrote j work out r (workAfter s2 work) out
+      go zero is e = absurd (h (ap (λ (w : Written). w .refusal) e))
+      go (suc n) is e = rw e (searched-as (suc n) is)
+
+  -- nothing is refused, and the record's length is answered
+  asked-none : r .refusal ≡ 0 → (refusalFor (F .number) (sizeWith (length s1) (length s2) (F .sizes)) (length out) ≡ 0)
+      × (r .bytes ≡ sizeWith (length s1) (length s2) (F .sizes))
+  asked-none = answer-zero (F .number) (sizeWith (length s1) (length s2) (F .sizes)) (length out) r (F .answer)
+
+  -- the record has room, and Section 6 lies within it
+  pub put-room : r .refusal ≡ 0
+      → (frontSize (length s1) (length s2) (length counts) ≤ r .bytes) × (r .bytes ≤ 1048576) × (r .bytes ≤ length out)
+  put-room z =
+      let a = asked-none z in
+      let w = nothing-refused (F .number) (sizeWith (length s1) (length s2) (F .sizes)) (length out) (a .0) in
+      let e = size-parts (length s1) (length s2) (length counts) (F .sizes) (F .each) in
+      (omega (arith, a .1, e), omega (arith, a .1, w .1), omega (arith, a .1, w .2))
+
+  -- the record
+  pub wrote-put : r .refusal ≡ 0 → (work′ ys : List ℕ) → work′ ≡ workAfter s2 work
+      → ((data6 : List ℕ) → drop (frontSize (length s1) (length s2) (length counts)) (take (r .bytes) mid)
+      ≡ sectionBytes 6 (head .version) noLetters data6
+      → ys ≡ recordBytes (head .version) s1 s2 (leadsData (head .flags) firsts counts ids) data6)
+      → Wrote j work out r work′ (ys ++ drop (r .bytes) mid)
+  unfolding recordOf
+  wrote-put z work′ ys cleared whole = rw cleared (go (judged founds))
+    where
+      none-asked : F .number ≡ 0
+      none-asked = nothing-refused (F .number) (sizeWith (length s1) (length s2) (F .sizes)) (length out) (asked-none z .0) .0
+
+      go : Judged founds → Wrote j work out r (workAfter s2 work) (ys ++ drop (r .bytes) mid)
+      go (inl (f, n)) = absurd (omega (arith, none-asked, F .sized .says ∙ n))
+      go (inr (streams, f, n)) =
+          let l = job-listed j (length work) asked in
+          let a = asked-none z in
+          let long : r .bytes ≡ length (recordOf j streams) =
+          a .1 ∙ sym (length-record j (F .sizes) (F .number) (l .0) (l .1) (F .each) (F .sized) streams none-asked f) in
+          let put : ys ≡ recordOf j streams =
+          whole (streamsData (head .step) (head .interval) (head .order) streams) (F .put z .1 streams (founds, F .sized .all, f)) in
+          let answer : r ≡ record { refusal = 0; bytes = length (recordOf j streams) } =
+          F .answer ∙ ap₂ answerOf (a .0) (sym (a .1) ∙ long) in
+          rw (put, F .put z .0, long, answer) (rw f at (searched-as 0 (sym decided ∙ a .0)))

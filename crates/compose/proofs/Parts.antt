@@ -4,18 +4,21 @@ use mathlib.Core.Path.{_≡_, refl, sym, ap, _∙_}
 use mathlib.Core.Bool.{Bool, true, false, cond}
 use mathlib.Core.List.{List, [], _∷_, _++_, map, append-assoc, append-nil}
 use native.Mathlib.Omega.{arith}
+use native.Mathlib.Nat.{le-trans}
 use borrow.Author.Tests.{eq-eqb, ne-eqb, eqb-true}
-use borrow.Rule.Slice.PartMut.{putMid}
+use borrow.Rule.Slice.PartMut.{putMid, drop-put}
 use lib.Dec.{eqb}
 use lib.ListN.{length, take, drop, replicate, length-append, length-drop, length-map}
-use lib.Seq.{drop-drop, drop-length, length-take-le}
+use lib.Seq.{drop-drop, drop-length, drop-at, take-at, length-take-le}
 use Rattle.wire.specs.Numbers.{bytesOf}
 use Rattle.wire.proofs.Laws.{length-bytesOf}
-use Rattle.layout.specs.Layout.{evened, sizeFor, checked, sectionBytes, noLetters, letters, leadsData, joined, streamsData}
+use Rattle.layout.specs.Layout.{evened, sizeFor, checked, sectionBytes, noLetters, letters, joined, streamsData}
 use Rattle.layout.specs.Layout.{pointersData, givenSize, givenSection, recordSize, recordBytes}
 use Rattle.layout.specs.Counts.{byteCounts}
-use Rattle.layout.proofs.Laws.{Filled, filled-put, filled-behind, spare-put, length-byteCounts, counts-are, length-streamsData}
-use Rattle.compose.specs.Writing.{Job, total, recordOf}
+use Rattle.layout.proofs.Laws.{Filled, filled-put, filled-behind, spare-put, length-sectionBytes}
+use Rattle.layout.proofs.Laws.{length-byteCounts, counts-are, length-streamsData}
+use Rattle.compose.specs.Writing.{total}
+use Rattle.compose.specs.InnerJob.{frontSize, count6, sizeWith}
 use Rattle.compose.proofs.Streams.{total-joined}
 
 -- what is lent from k up to e is written whole, behind what was written before it
@@ -96,36 +99,66 @@ given-bounds count = go (eqb count 0) refl
 
 -- ---- the record
 
+-- Section 6 ends where the record does
+pub size-parts : (count1 count2 leads : ℕ) (sizes : List ℕ) → length sizes ≡ leads
+    → sizeWith count1 count2 sizes ≡ frontSize count1 count2 leads + sizeFor (count6 sizes)
+size-parts count1 count2 leads sizes e = rw (← e) refl
+
+-- it is put there: behind it nothing is changed
+module _ (out zs : List ℕ) (from size : ℕ) (h : from ≤ size) (g : size ≤ length out) (long : length zs ≡ size - from) where
+  pub behind-six : drop size (putMid from (size - from) out zs) ≡ drop size out
+  behind-six = drop-put from size out zs h g long
+
+  pub inside-six : drop from (take size (putMid from (size - from) out zs)) ≡ zs
+  inside-six =
+      let start = length-take-le from out (le-trans h g) in
+      let whole : length (take from out ++ zs) ≡ size = simp length-append (omega (arith, start, long)) in
+      ap (λ (l : List ℕ). drop from (take size l)) (sym (append-assoc (take from out) zs (drop (size - from) (drop from out))))
+      ∙ ap (drop from) (take-at (take from out ++ zs) (drop (size - from) (drop from out)) size whole)
+      ∙ drop-at (take from out) zs from start
+
 -- parts that are written keep the length
 pub filled-length : {l q x : List ℕ} {j k : ℕ} → Filled l j q k x → k ≤ length l → length x ≡ length l
 filled-length {l} {q} {x} {j} {k} f h =
     ap length (f .is) ∙ simp (length-append, length-drop) (omega (arith, f .start, f .size))
 
-module _ (j : Job) (streams : List (List ℕ)) where
-  abbrev data3 : List ℕ
-  data3 = leadsData (j .flags) (j .firsts) (j .counts) (j .ids)
+-- the front of a part that is lent, in its place again
+pub filled-front : (l zs : List ℕ) (e : ℕ) → length zs ≡ e → Filled l 0 ([] ++ zs) e (zs ++ drop e l)
+filled-front l zs e h = record { start = refl; size = omega arith; is = refl }
 
-  abbrev data6 : List ℕ
-  data6 = streamsData (j .step) (j .interval) (j .order) streams
+-- all of a list is written
+filled-all : {l q x : List ℕ} {k : ℕ} → Filled l 0 q k x → k ≡ length l → x ≡ q
+filled-all {l} {q} f e = f .is ∙ rw (e, drop-length l, append-nil q)
 
-  -- all sections are written, each behind the one before, and then the size and the check
-  pub record-put : (l x o p0 p1 p2 p3 p6 : List ℕ) (s1 s2 s3 s6 : ℕ)
-      → Filled l 6 ((((([] ++ p0) ++ p1) ++ p2) ++ p3) ++ p6) (length l) x
-      → s1 ≡ sizeFor (length (j .section1)) → s2 ≡ givenSize (length (j .section2)) → s3 ≡ sizeFor (length data3) → s6 ≡ sizeFor
-      (length data6)
-      → length l ≡ recordSize (length (j .section1)) (length (j .section2)) (length data3) (length data6)
-      → p0 ≡ sectionBytes 0 (j .version) letters (pointersData s1 s2 s3 s6)
-      → p1 ≡ sectionBytes 1 (j .version) noLetters (j .section1)
-      → p2 ≡ givenSection (j .version) (j .section2)
-      → p3 ≡ sectionBytes 3 (j .version) noLetters data3
-      → p6 ≡ sectionBytes 6 (j .version) noLetters data6
-      → o ≡ checked (bytesOf 4 (length x) ++ drop 6 x) → o ≡ recordOf j streams
-  unfolding recordOf recordBytes
-  record-put l x o p0 p1 p2 p3 p6 s1 s2 s3 s6 f e1 e2 e3 e6 size h0 h1 h2 h3 h6 sealed =
-      let long : length x ≡ recordSize (length (j .section1)) (length (j .section2)) (length data3) (length data6) =
-      filled-length f (omega arith) ∙ size in
-      let behind : drop 6 x ≡ sectionBytes 0 (j .version) letters
-      (pointersData (sizeFor (length (j .section1))) (givenSize (length (j .section2)))
-      (sizeFor (length data3)) (sizeFor (length data6))) ++ (p1 ++ (p2 ++ (p3 ++ p6))) =
-      filled-behind f ∙ rw (drop-length l, append-nil ((((([] ++ p0) ++ p1) ++ p2) ++ p3) ++ p6), h0, e1, e2, e3, e6) (simp append-assoc) in
-      sealed ∙ rw (long, behind, h1, h2, h3, h6)
+-- three sections are all of it
+pub filled-three : {l p1 p2 p3 x : List ℕ} {k : ℕ} (s1 s2 s3 : List ℕ) → Filled l 0 ((([] ++ p1) ++ p2) ++ p3) k x → k ≡ length l → p1 ≡ s1
+    → p2 ≡ s2 → p3 ≡ s3 → x ≡ s1 ++ (s2 ++ s3)
+filled-three s1 s2 s3 f e h1 h2 h3 = filled-all f e ∙ rw (h1, h2, h3) (append-assoc s1 s2 s3)
+
+-- sections in a row
+in-a-row : (a b c d e : List ℕ) → (a ++ (b ++ (c ++ d))) ++ e ≡ a ++ (b ++ (c ++ (d ++ e)))
+in-a-row a b c d e = simp append-assoc
+
+-- before Section 6, which is there, stand the pointers and the others; then come the size and the check
+module _ (version : ℕ) (data1 data2 data3 data6 l x o p0 p : List ℕ) (size1 size2 size3 : ℕ) (e1 : size1 ≡ sizeFor (length data1))
+    (e2 : size2 ≡ givenSize (length data2)) (e3 : size3 ≡ sizeFor (length data3)) (within : 142 + size1 + size2 + size3 ≤ length l) where
+  pub record-put : Filled l 6 (([] ++ p0) ++ p) (142 + size1 + size2 + size3) x
+      → p0 ≡ sectionBytes 0 version letters (pointersData size1 size2 size3 (length l - (142 + size1 + size2 + size3)))
+      → p ≡ sectionBytes 1 version noLetters data1 ++ (givenSection version data2 ++ sectionBytes 3 version noLetters data3)
+      → drop (142 + size1 + size2 + size3) l ≡ sectionBytes 6 version noLetters data6
+      → o ≡ checked (bytesOf 4 (length x) ++ drop 6 x) → o ≡ recordBytes version data1 data2 data3 data6
+  unfolding recordBytes
+  record-put f h0 h h6 sealed =
+      let at6 = 142 + size1 + size2 + size3 in
+      let left : length l - at6 ≡ sizeFor (length data6) =
+      sym (length-drop at6 l) ∙ ap length h6 ∙ length-sectionBytes 6 version noLetters data6 refl in
+      let long : length x ≡ recordSize (length data1) (length data2) (length data3) (length data6) =
+      filled-length f within ∙ omega (arith, left, within, e1, e2, e3) in
+      let zeroth = sectionBytes 0 version letters (pointersData size1 size2 size3 (length l - at6)) in
+      let first = sectionBytes 1 version noLetters data1 in
+      let second = givenSection version data2 in
+      let third = sectionBytes 3 version noLetters data3 in
+      let sixth = sectionBytes 6 version noLetters data6 in
+      let behind : drop 6 x ≡ zeroth ++ (first ++ (second ++ (third ++ sixth))) =
+      filled-behind f ∙ rw (h0, h, h6) (in-a-row zeroth first second third sixth) in
+      sealed ∙ rw (long, behind, left, e1, e2, e3)

@@ -1,54 +1,71 @@
 -- What stands once nothing is refused before the search. No public contract rests on this.
-use Prim.Native.Nat.{ℕ, _+_, _*_, _≤_}
+use Prim.Native.Nat.{ℕ, zero, suc, _+_, _*_, _<_, _≤_}
 use mathlib.Core.Path.{_≡_}
 use mathlib.Core.Bool.{true, cond}
 use mathlib.Core.List.{List}
-use mathlib.Core.Option.{Option}
 use lib.Dec.{leb, eqb}
-use lib.ListN.{length}
-use Rattle.wire.specs.Rules.{allIn, unless}
-use Rattle.compiled.specs.InnerForm.{Holding}
-use Rattle.layout.specs.Layout.{recordSize}
+use lib.IntN.{ℤ}
+use lib.ListN.{length, getD, take, drop}
+use Rattle.wire.specs.Rules.{unless}
+use Rattle.layout.specs.Layout.{sizeFor, sectionBytes, noLetters, streamsData, givenSize, recordSize}
 use Rattle.encode.specs.Encoding.{tablesGiven, givenRight}
 use Rattle.compose.specs.declared.Written.{Written}
-use Rattle.compose.specs.Writing.{Job, total, longest, leadAsked, cut, FoundAll, streamsOf, recordOf, foundRefusal, writtenAs, outAs}
+use Rattle.compose.specs.declared.Head.{Head}
+use Rattle.compose.specs.Writing.{total, longest, cut}
 use Rattle.compose.specs.InnerSizes.{SizedAs, StreamsFor}
 
--- the job is asked right, the numbers hold its tables, and the work space has room for the longest lead
-abbrev pub Sound : Job → List ℕ → ℕ → Type 0
-Sound j tab work =
-    (length (j .counts) ≤ 32)
-    × (length (j .firsts) ≡ length (j .counts))
-    × (length (j .ids) ≡ length (j .counts))
-    × (j .order ≤ 2)
-    × (total (j .counts) ≡ length (j .samples))
-    × (longest (j .counts) ≤ 65536)
-    × (longest (j .counts) * length (tablesGiven (j .section2)) ≤ work)
-    × (allIn 0 (length (j .counts)) (leadAsked (j .firsts) (j .counts)) ≡ true)
-    × (givenRight (j .section2) ≡ true)
-    × Holding (tablesGiven (j .section2)) tab
+-- the streams can be looked for: Section 2 is right, the samples are those of the leads, and the work space has room for the longest
+abbrev pub Sound : List ℕ → List ℕ → List ℤ → ℕ → Type 0
+Sound s2 counts xs work =
+    (givenRight s2 ≡ true)
+    × (longest counts ≤ 65536)
+    × (longest counts * length (tablesGiven s2) ≤ work)
+    × (total counts ≡ length xs)
 
--- the streams are sized, none is refused, and the output is as long as the record
-abbrev pub Fitting : Job → List ℕ → ℕ → Type 0
-Fitting j sizes room =
-    (length sizes ≡ length (j .counts))
-    × SizedAs (j .section2) (j .order) (cut (j .counts) (j .samples)) 0 sizes
-    × (room ≡ recordSize (length (j .section1)) (length (j .section2)) (2 + 9 * length (j .counts)) (6 + 2 * length sizes + total sizes))
-    × (room ≤ 1048576)
+-- at most 32 leads, in lists of equal length, each with a sample
+abbrev pub Listed : List ℕ → List ℕ → List ℕ → Type 0
+Listed firsts counts ids =
+    (length firsts ≡ length counts)
+    × (length ids ≡ length counts)
+    × (length counts ≤ 32)
+    × ((k : ℕ) → k < length counts → 1 ≤ getD counts k 0)
 
--- the output is the job's record
-abbrev pub Put : Job → List ℕ → Type 0
-Put j out =
-    (streams : List (List ℕ)) → StreamsFor (j .section2) (j .order) (cut (j .counts) (j .samples)) streams → out ≡ recordOf j streams
+-- where Section 6 begins, by the lengths of Section 1's and 2's data and the count of leads
+abbrev pub frontSize : ℕ → ℕ → ℕ → ℕ
+frontSize count1 count2 leads = 142 + sizeFor count1 + givenSize count2 + sizeFor (2 + 9 * leads)
+
+-- the length of Section 6's data, by the sizes of the streams
+abbrev pub count6 : List ℕ → ℕ
+count6 sizes = 6 + 2 * length sizes + total sizes
+
+-- the record's length
+abbrev pub sizeWith : ℕ → ℕ → List ℕ → ℕ
+sizeWith count1 count2 sizes = recordSize count1 count2 (2 + 9 * length sizes) (count6 sizes)
 
 -- 15, 16 and 11 for the output, by the number that the streams ask for, the record's length and the room
 abbrev pub refusalFor : ℕ → ℕ → ℕ → ℕ
 refusalFor number size room = cond (eqb number 0) (unless (leb size 1048576) 16 (unless (leb size room) 11 0)) number
 
--- what is answered once the search has begun, and the output afterwards
-abbrev pub Answered : Job → List ℕ → Written → List ℕ → Type 0
-Answered j out r out′ =
-    (founds : List (Option (List ℕ)))
-    × FoundAll (j .section2) (j .order) (cut (j .counts) (j .samples)) founds
-    × (r ≡ writtenAs j (foundRefusal j (length out) (streamsOf founds)) (streamsOf founds))
-    × (out′ ≡ outAs j (foundRefusal j (length out) (streamsOf founds)) (streamsOf founds) out)
+-- a refusal and nothing else, or the record's length
+abbrev pub answerOf : ℕ → ℕ → Written
+answerOf zero size = record { refusal = 0; bytes = size }
+answerOf (suc n) size = record { refusal = suc n; bytes = 0 }
+
+-- Section 6 ends where the record will, and behind it nothing is changed
+abbrev pub Put6 : ℕ → List ℕ → Head → List ℕ → List ℤ → List ℕ → ℕ → List ℕ → Type 0
+Put6 count1 s2 head counts xs out size out′ =
+    (drop size out′ ≡ drop size out)
+    × ((streams : List (List ℕ)) → StreamsFor s2 (head .order) (cut counts xs) streams
+    → drop (frontSize count1 (length s2) (length counts)) (take size out′)
+    ≡ sectionBytes 6 (head .version) noLetters (streamsData (head .step) (head .interval) (head .order) streams))
+
+-- the streams are sized, and they and the room decide: a refusal changes nothing, else Section 6 is put
+pub record Streamed (count1 : ℕ) (s2 : List ℕ) (head : Head) (counts : List ℕ) (xs : List ℤ) (out : List ℕ) (r : Written) (out′ : List ℕ)
+    : Type 0 where
+  pub sizes : List ℕ
+  pub number : ℕ
+  pub each : length sizes ≡ length counts
+  pub sized : SizedAs s2 (head .order) (cut counts xs) number sizes
+  pub answer : r ≡ answerOf (refusalFor number (sizeWith count1 (length s2) sizes) (length out)) (sizeWith count1 (length s2) sizes)
+  pub same : (r .refusal ≡ 0 → ⊥) → out′ ≡ out
+  pub put : r .refusal ≡ 0 → Put6 count1 s2 head counts xs out (r .bytes) out′

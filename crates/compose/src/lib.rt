@@ -2,21 +2,22 @@
 // output is touched; then each section is written into its own part of it, in place.
 ghost use mathlib.Core.Path.{_≡_};
 ghost use mathlib.Core.Bool.{true};
-ghost use mathlib.Core.List.{List, []};
+ghost use mathlib.Core.List.{List, [], _++_};
 ghost use mathlib.Core.Option.{Option};
-ghost use Prim.Native.Nat.{ℕ, suc, _+_, _*_, _<_, _≤_, min};
-ghost use lib.ListN.{length, take};
+ghost use Prim.Native.Nat.{ℕ, _+_, _*_, _<_, _≤_, min};
+ghost use lib.ListN.{length, take, drop};
 ghost use Rattle.wire.specs.Rules.{allIn};
-ghost use Rattle.compiled.specs.InnerForm.{Holding};
 ghost use Rattle.samples.specs.Differences.{differences};
+ghost use Rattle.compiled.specs.InnerForm.{Holding};
 ghost use Rattle.packing.specs.Packing.{packed};
 ghost use Rattle.shortest.specs.Shortest.{Shortest};
-ghost use Rattle.layout.specs.Layout.{sizeFor, sectionBytes, noLetters, joined, streamsData, givenSize, givenSection, recordSize};
-ghost use Rattle.encode.specs.Encoding.{tablesGiven, givenRight};
-ghost use Rattle.encode.specs.InnerEncode.{bitsFound, clearedIf};
-ghost use Rattle.compose.specs.Writing.{Job, jobOf, total, longest, leadAsked, jobRight, jobRefusal, cut, writtenAs, Wrote};
-ghost use Rattle.compose.specs.InnerJob.{Sound, Fitting, Put, refusalFor, Answered};
+ghost use Rattle.layout.specs.Layout.{sizeFor, sectionBytes, noLetters, leadsData, joined, streamsData};
+ghost use Rattle.layout.specs.Layout.{givenSize, givenSection, recordBytes};
+ghost use Rattle.encode.specs.Encoding.{tablesGiven, givenRight, workAfter};
+ghost use Rattle.encode.specs.InnerEncode.{bitsFound};
+ghost use Rattle.compose.specs.Writing.{jobOf, total, longest, leadAsked, jobRight, jobRefusal, cut, Wrote};
 ghost use Rattle.compose.specs.InnerSizes.{numberWith, SizedAs, StreamOf, StreamsFor};
+ghost use Rattle.compose.specs.InnerJob.{Sound, Listed, frontSize, count6, sizeWith, refusalFor, answerOf, Streamed};
 
 // What writing a record answers: 0 or a refusal number, and on a refusal nothing else; the record's length.
 #[repr(C)]
@@ -185,9 +186,8 @@ fn size_streams(
     work: &mut [u8],
     sizes: &mut [u32],
 ) -> u8
-    requires { ⌜ (givenRight (now section2) ≡ true) × Holding (tablesGiven (now section2)) (now tab) ⌝ }
-    requires { ⌜ (longest (now counts) ≤ 65536) × (longest (now counts) * length (tablesGiven (now section2)) ≤ length (now work))
-        × (total (now counts) ≡ length (now xs)) × (length (now counts) ≤ length (now sizes)) ⌝ }
+    requires { ⌜ Sound (now section2) (now counts) (now xs) (length (now work)) × Holding (tablesGiven (now section2)) (now tab) ⌝ }
+    requires { ⌜ length (now counts) ≤ length (now sizes) ⌝ }
     ensures { λ r. ⌜ SizedAs (now (section2 .entry)) order (cut (now (counts .entry)) (now (xs .entry))) r
         (take (length (now (counts .entry))) (now (sizes .exit)))
         × (length (now (tab .entry)) ≡ 0 → now (work .exit) ≡ now (work .entry)) ⌝ }
@@ -239,9 +239,7 @@ fn put_streams(
     sizes: &[u32],
     part: &mut [u8],
 )
-    requires { ⌜ (givenRight (now section2) ≡ true) × Holding (tablesGiven (now section2)) (now tab) ⌝ }
-    requires { ⌜ (longest (now counts) ≤ 65536) × (longest (now counts) * length (tablesGiven (now section2)) ≤ length (now work))
-        × (total (now counts) ≡ length (now xs)) ⌝ }
+    requires { ⌜ Sound (now section2) (now counts) (now xs) (length (now work)) × Holding (tablesGiven (now section2)) (now tab) ⌝ }
     requires { ⌜ (length (now sizes) ≡ length (now counts)) × (total (now sizes) ≡ length (now part))
         × SizedAs (now section2) order (cut (now counts) (now xs)) 0 (now sizes) ⌝ }
     ensures { λ _. ⌜ ((streams : List (List ℕ))
@@ -280,12 +278,10 @@ fn write_streams(
     sizes: &[u32],
     part: &mut [u8],
 )
-    requires { ⌜ (givenRight (now section2) ≡ true) × Holding (tablesGiven (now section2)) (now tab) ⌝ }
-    requires { ⌜ (longest (now counts) ≤ 65536) × (longest (now counts) * length (tablesGiven (now section2)) ≤ length (now work))
-        × (total (now counts) ≡ length (now xs)) ⌝ }
+    requires { ⌜ Sound (now section2) (now counts) (now xs) (length (now work)) × Holding (tablesGiven (now section2)) (now tab) ⌝ }
     requires { ⌜ (length (now counts) ≤ 32) × (head .order ≤ 2) × (length (now sizes) ≡ length (now counts))
         × SizedAs (now section2) (head .order) (cut (now counts) (now xs)) 0 (now sizes)
-        × (length (now part) ≡ sizeFor (6 + 2 * length (now sizes) + total (now sizes))) ⌝ }
+        × (length (now part) ≡ sizeFor (count6 (now sizes))) ⌝ }
     ensures { λ _. ⌜ ((streams : List (List ℕ))
         → StreamsFor (now (section2 .entry)) (head .order) (cut (now (counts .entry)) (now (xs .entry))) streams
         → now (part .exit) ≡ sectionBytes 6 (head .version) noLetters (streamsData (head .step) (head .interval) (head .order) streams))
@@ -310,7 +306,7 @@ fn write_streams(
 
 // A section's length, with its header and spare byte.
 fn size_for(count: usize) -> usize
-    requires { ⌜ count ≤ 4294967296 ⌝ }
+    requires { ⌜ count ≤ 1099511627776 ⌝ }
     ensures { λ r. ⌜ r ≡ sizeFor count ⌝ }
 {
     16 + count + count % 2
@@ -318,7 +314,7 @@ fn size_for(count: usize) -> usize
 
 // Section 2's length, 0 where it is not given.
 fn given_size(count: usize) -> usize
-    requires { ⌜ count ≤ 4294967296 ⌝ }
+    requires { ⌜ count ≤ 1099511627776 ⌝ }
     ensures { λ r. ⌜ r ≡ givenSize count ⌝ }
 {
     if count == 0 {
@@ -327,9 +323,18 @@ fn given_size(count: usize) -> usize
     size_for(count)
 }
 
+// Where Section 6 begins, by the lengths of Section 1's and 2's data and the count of leads.
+fn front_size(count1: usize, count2: usize, leads: usize) -> usize
+    requires { ⌜ (count1 ≤ 1048576) × (count2 ≤ 1048576) × (leads ≤ 32) ⌝ }
+    ensures { λ r. ⌜ (r ≡ frontSize count1 count2 leads) × (r < 4194304) ⌝ }
+{
+    142 + size_for(count1) + given_size(count2) + size_for(2 + 9 * leads)
+}
+
 // The record's length by those of its data; 1,048,577 for that and more.
-fn record_size(count1: usize, count2: usize, count3: usize, count6: usize) -> usize
-    ensures { λ r. ⌜ r ≡ min 1048577 (recordSize count1 count2 count3 count6) ⌝ }
+fn record_size(count1: usize, count2: usize, sizes: &[u32]) -> usize
+    requires { ⌜ length (now sizes) ≤ 32 ⌝ }
+    ensures { λ r. ⌜ r ≡ min 1048577 (sizeWith count1 count2 (now (sizes .entry))) ⌝ }
 {
     if 1048576 < count1 {
         return 1048577;
@@ -337,17 +342,96 @@ fn record_size(count1: usize, count2: usize, count3: usize, count6: usize) -> us
     if 1048576 < count2 {
         return 1048577;
     }
-    if 1048576 < count3 {
-        return 1048577;
-    }
-    if 1048576 < count6 {
-        return 1048577;
-    }
-    let size = 142 + size_for(count1) + given_size(count2) + size_for(count3) + size_for(count6);
+    let front = front_size(count1, count2, sizes.len());
+    let size = front + size_for(6 + 2 * sizes.len() + total_of(sizes));
     if 1048576 < size {
         return 1048577;
     }
     size
+}
+
+// A refusal and nothing else.
+fn refused(refusal: u8) -> Written
+    ensures { λ r. ⌜ r ≡ record { refusal = refusal; bytes = 0 } ⌝ }
+{
+    Written { refusal, bytes: 0 }
+}
+
+// 15, 16 or 11 for the output, by the number that the streams ask for and the record's length; else that length.
+fn judged(number: u8, count1: usize, count2: usize, sizes: &[u32], room: usize) -> Written
+    requires { ⌜ length (now sizes) ≤ 32 ⌝ }
+    ensures { λ r. ⌜ r ≡ answerOf (refusalFor number (sizeWith count1 count2 (now (sizes .entry))) room)
+        (sizeWith count1 count2 (now (sizes .entry))) ⌝ }
+{
+    if number != 0 {
+        return refused(number);
+    }
+    let size = record_size(count1, count2, sizes);
+    if 1048576 < size {
+        return refused(16);
+    }
+    if room < size {
+        return refused(11);
+    }
+    Written {
+        refusal: 0,
+        bytes: size as u32,
+    }
+}
+
+// The streams are looked for and, if nothing is refused, Section 6 is put where it will stand in the record.
+fn write_found(
+    count1: usize,
+    section2: &[u8],
+    tab: &[u32],
+    head: Head,
+    counts: &[u32],
+    xs: &[i16],
+    work: &mut [u8],
+    out: &mut [u8],
+) -> Written
+    requires { ⌜ Sound (now section2) (now counts) (now xs) (length (now work)) × Holding (tablesGiven (now section2)) (now tab) ⌝ }
+    requires { ⌜ (length (now counts) ≤ 32) × (head .order ≤ 2) ⌝ }
+    ensures { λ r. ⌜ Streamed count1 (now (section2 .entry)) head (now (counts .entry)) (now (xs .entry)) (now (out .entry)) r
+        (now (out .exit))
+        × (length (now (tab .entry)) ≡ 0 → now (work .exit) ≡ now (work .entry)) ⌝ }
+{
+    let mut sizes: [u32; 32] = [0; 32];
+    let number = size_streams(section2, tab, counts, xs, head.order, work, &mut sizes);
+    let sized = &sizes[..counts.len()];
+    let answer = judged(number, count1, section2.len(), sized, out.len());
+    if answer.refusal != 0 {
+        return answer;
+    }
+    let from = front_size(count1, section2.len(), counts.len());
+    let part = &mut out[from..answer.bytes as usize];
+    write_streams(section2, tab, head, counts, xs, work, sized, part);
+    answer
+}
+
+// The same by Section 2's tables; where there are any, all of the work space is cleared.
+fn write_by(
+    count1: usize,
+    section2: &[u8],
+    head: Head,
+    counts: &[u32],
+    xs: &[i16],
+    work: &mut [u8],
+    out: &mut [u8],
+) -> Written
+    requires { ⌜ Sound (now section2) (now counts) (now xs) (length (now work)) × (length (now counts) ≤ 32) × (head .order ≤ 2) ⌝ }
+    ensures { λ r. ⌜ Streamed count1 (now (section2 .entry)) head (now (counts .entry)) (now (xs .entry)) (now (out .entry)) r
+        (now (out .exit))
+        × (now (work .exit) ≡ workAfter (now (section2 .entry)) (now (work .entry))) ⌝ }
+{
+    let mut tab = encode::table_room();
+    let held = encode::hold_tables(section2, &mut tab);
+    let answer = write_found(count1, section2, &tab[..held], head, counts, xs, work, out);
+    if held == 0 {
+        return answer;
+    }
+    encode::clear(work);
+    answer
 }
 
 // Section 2, where it is given.
@@ -361,175 +445,71 @@ fn write_given(part: &mut [u8], version: u8, section2: &[u8])
     layout::write_section(part, 2, version, section2);
 }
 
-// The record, of the streams that were sized: each section is written into its own part of the output.
-fn put_record(
+// Sections 1 to 3, each in its own part.
+fn write_sections(
+    part: &mut [u8],
+    head: Head,
     section1: &[u8],
     section2: &[u8],
-    tab: &[u32],
-    head: Head,
     firsts: &[u32],
     counts: &[u32],
     ids: &[u8],
-    xs: &[i16],
-    work: &mut [u8],
-    sizes: &[u32],
-    out: &mut [u8],
 )
-    requires { ⌜ Sound (jobOf (now section1) (now section2) head (now firsts) (now counts) (now ids) (now xs)) (now tab)
-        (length (now work)) ⌝ }
-    requires { ⌜ Fitting (jobOf (now section1) (now section2) head (now firsts) (now counts) (now ids) (now xs)) (now sizes)
-        (length (now out)) ⌝ }
-    ensures { λ _. ⌜ Put
-        (jobOf (now (section1 .entry)) (now (section2 .entry)) head (now (firsts .entry)) (now (counts .entry)) (now (ids .entry))
-        (now (xs .entry))) (now (out .exit))
-        × (length (now (tab .entry)) ≡ 0 → now (work .exit) ≡ now (work .entry)) ⌝ }
+    requires { ⌜ Listed (now firsts) (now counts) (now ids) × (length (now part) ≤ 1048576)
+        × (142 + length (now part) ≡ frontSize (length (now section1)) (length (now section2)) (length (now counts))) ⌝ }
+    ensures { λ _. ⌜ now (part .exit)
+        ≡ sectionBytes 1 (head .version) noLetters (now (section1 .entry)) ++ (givenSection (head .version) (now (section2 .entry))
+        ++ sectionBytes 3 (head .version) noLetters
+        (leadsData (head .flags) (now (firsts .entry)) (now (counts .entry)) (now (ids .entry)))) ⌝ }
 {
-    let end = out.len();
-    let size1 = size_for(section1.len());
-    let size2 = given_size(section2.len());
-    let size3 = size_for(2 + 9 * counts.len());
-    let at2 = 142 + size1;
-    let at3 = at2 + size2;
-    let at6 = at3 + size3;
-    layout::write_pointers(
-        &mut out[6..142],
-        head.version,
-        size1,
-        size2,
-        size3,
-        end - at6,
-    );
-    layout::write_section(&mut out[142..at2], 1, head.version, section1);
-    write_given(&mut out[at2..at3], head.version, section2);
+    let at2 = size_for(section1.len());
+    let at3 = at2 + given_size(section2.len());
+    layout::write_section(&mut part[..at2], 1, head.version, section1);
+    write_given(&mut part[at2..at3], head.version, section2);
     layout::write_leads(
-        &mut out[at3..at6],
+        &mut part[at3..],
         head.version,
         head.flags,
         firsts,
         counts,
         ids,
     );
-    write_streams(
-        section2,
-        tab,
+}
+
+// What stands before Section 6 is put, and then the record's size and its check.
+fn write_front(
+    out: &mut [u8],
+    head: Head,
+    section1: &[u8],
+    section2: &[u8],
+    firsts: &[u32],
+    counts: &[u32],
+    ids: &[u8],
+)
+    requires { ⌜ Listed (now firsts) (now counts) (now ids) × (length (now out) ≤ 1048576)
+        × (frontSize (length (now section1)) (length (now section2)) (length (now counts)) ≤ length (now out)) ⌝ }
+    ensures { λ _. ⌜ ((data6 : List ℕ)
+        → drop (frontSize (length (now (section1 .entry))) (length (now (section2 .entry))) (length (now (counts .entry))))
+        (now (out .entry)) ≡ sectionBytes 6 (head .version) noLetters data6
+        → now (out .exit) ≡ recordBytes (head .version) (now (section1 .entry)) (now (section2 .entry))
+        (leadsData (head .flags) (now (firsts .entry)) (now (counts .entry)) (now (ids .entry))) data6) ⌝ }
+{
+    let size1 = size_for(section1.len());
+    let size2 = given_size(section2.len());
+    let size3 = size_for(2 + 9 * counts.len());
+    let at6 = 142 + size1 + size2 + size3;
+    let size6 = out.len() - at6;
+    layout::write_pointers(&mut out[6..142], head.version, size1, size2, size3, size6);
+    write_sections(
+        &mut out[142..at6],
         head,
+        section1,
+        section2,
+        firsts,
         counts,
-        xs,
-        work,
-        sizes,
-        &mut out[at6..end],
+        ids,
     );
     layout::seal_record(out);
-}
-
-// 15, 16 or 11 for the output, or 0, by the number that the streams ask for and the record's length.
-fn found_refusal(number: u8, size: usize, room: usize) -> u8
-    ensures { λ r. ⌜ r ≡ refusalFor number size room ⌝ }
-{
-    if number != 0 {
-        return number;
-    }
-    if 1048576 < size {
-        return 16;
-    }
-    if room < size {
-        return 11;
-    }
-    0
-}
-
-// A refusal and nothing else.
-fn refused(refusal: u8) -> Written
-    ensures { λ r. ⌜ ((j : Job) (n : ℕ) (streams : Option (List (List ℕ))) → refusal ≡ suc n → r ≡ writtenAs j (suc n) streams) ⌝ }
-{
-    Written { refusal, bytes: 0 }
-}
-
-// The streams are looked for and, if nothing is refused, the record is put at the front of the output.
-fn write_found(
-    section1: &[u8],
-    section2: &[u8],
-    tab: &[u32],
-    head: Head,
-    firsts: &[u32],
-    counts: &[u32],
-    ids: &[u8],
-    xs: &[i16],
-    work: &mut [u8],
-    out: &mut [u8],
-) -> Written
-    requires { ⌜ Sound (jobOf (now section1) (now section2) head (now firsts) (now counts) (now ids) (now xs)) (now tab)
-        (length (now work)) ⌝ }
-    ensures { λ r. ⌜ Answered
-        (jobOf (now (section1 .entry)) (now (section2 .entry)) head (now (firsts .entry)) (now (counts .entry)) (now (ids .entry))
-        (now (xs .entry))) (now (out .entry)) r (now (out .exit))
-        × (length (now (tab .entry)) ≡ 0 → now (work .exit) ≡ now (work .entry)) ⌝ }
-{
-    let leads = counts.len();
-    let mut sizes: [u32; 32] = [0; 32];
-    let number = size_streams(section2, tab, counts, xs, head.order, work, &mut sizes);
-    let count6 = 6 + 2 * leads + total_of(&sizes[..leads]);
-    let size = record_size(section1.len(), section2.len(), 2 + 9 * leads, count6);
-    let refusal = found_refusal(number, size, out.len());
-    if refusal != 0 {
-        return refused(refusal);
-    }
-    put_record(
-        section1,
-        section2,
-        tab,
-        head,
-        firsts,
-        counts,
-        ids,
-        xs,
-        work,
-        &sizes[..leads],
-        &mut out[..size],
-    );
-    Written {
-        refusal: 0,
-        bytes: size as u32,
-    }
-}
-
-// The record is written by the tables; where there are any, all of the work space is cleared.
-fn write_by(
-    section1: &[u8],
-    section2: &[u8],
-    tab: &[u32],
-    head: Head,
-    firsts: &[u32],
-    counts: &[u32],
-    ids: &[u8],
-    xs: &[i16],
-    work: &mut [u8],
-    out: &mut [u8],
-) -> Written
-    requires { ⌜ Sound (jobOf (now section1) (now section2) head (now firsts) (now counts) (now ids) (now xs)) (now tab)
-        (length (now work)) ⌝ }
-    ensures { λ r. ⌜ Answered
-        (jobOf (now (section1 .entry)) (now (section2 .entry)) head (now (firsts .entry)) (now (counts .entry)) (now (ids .entry))
-        (now (xs .entry))) (now (out .entry)) r (now (out .exit))
-        × (now (work .exit) ≡ clearedIf (length (now (tab .entry))) (now (work .entry))) ⌝ }
-{
-    let answer = write_found(
-        section1,
-        section2,
-        tab,
-        head,
-        firsts,
-        counts,
-        ids,
-        xs,
-        work,
-        out,
-    );
-    if tab.len() == 0 {
-        return answer;
-    }
-    encode::clear(work);
-    answer
 }
 
 // A job becomes a record at the front of the output. It is Section 1's data with their end mark, Section 2's with no spare byte (empty:
@@ -550,31 +530,16 @@ pub fn write_record(
         (now (xs .entry)))
         (now (work .entry)) (now (out .entry)) r (now (work .exit)) (now (out .exit)) ⌝ }
 {
-    let refusal = job_refusal(
-        section1,
-        section2,
-        head,
-        firsts,
-        counts,
-        ids,
-        xs,
-        work.len(),
-    );
+    let room = work.len();
+    let refusal = job_refusal(section1, section2, head, firsts, counts, ids, xs, room);
     if refusal != 0 {
         return refused(refusal);
     }
-    let mut tab = encode::table_room();
-    let held = encode::hold_tables(section2, &mut tab);
-    write_by(
-        section1,
-        section2,
-        &tab[..held],
-        head,
-        firsts,
-        counts,
-        ids,
-        xs,
-        work,
-        out,
-    )
+    let answer = write_by(section1.len(), section2, head, counts, xs, work, out);
+    if answer.refusal != 0 {
+        return answer;
+    }
+    let record = &mut out[..answer.bytes as usize];
+    write_front(record, head, section1, section2, firsts, counts, ids);
+    answer
 }

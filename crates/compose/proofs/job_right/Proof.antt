@@ -95,14 +95,15 @@ returns-7 c =
 returns-8 : tie.Need-returns-8
 unfolding jobRight
 returns-8 c =
-    let a = c .before .before .before .before .before .before .before .before .before .before .before .before .before .before .before .args in
+    let f = c .before .before .before .before .before .before .before in
+    let a = f .before .before .before .before .before .before .before .before .args in
     let n = length (a .counts .now) in
     rw (
-      le-leb 1 n (c .before .before .before .before .before .before .before .before .before .before .before .if1 .left),
-      le-leb n 32 (c .before .before .before .before .before .before .before .before .before .before .if2 .left),
-      eq-eqb (length (a .firsts .now)) n (c .before .before .before .before .before .before .before .before .before .if3 .left),
-      eq-eqb (length (a .ids .now)) n (c .before .before .before .before .before .before .before .before .if4 .left),
-      kept (c .before .before .before .before .before .before .before .leads-asked .ensures)
+      le-leb 1 n (f .before .before .before .before .if1 .left),
+      le-leb n 32 (f .before .before .before .if2 .left),
+      eq-eqb (length (a .firsts .now)) n (f .before .before .if3 .left),
+      eq-eqb (length (a .ids .now)) n (f .before .if4 .left),
+      kept (f .leads-asked .ensures)
           (c .before .before .before .before .before .before .if5 .left),
       le-leb (a .head .order) 2 (c .before .before .before .before .if6 .left),
       ne-eqb (a .head .step) 0 (c .before .before .if7 .left),
@@ -115,14 +116,15 @@ total-of-requires c κs = search needs
 returns-9 : tie.Need-returns-9
 unfolding jobRight
 returns-9 c =
-    let a = c .before .before .before .before .before .before .before .before .before .before .before .before .before .before .before .before .args in
+    let f = c .before .before .before .before .before .before .before .before in
+    let a = f .before .before .before .before .before .before .before .before .args in
     let n = length (a .counts .now) in
     rw (
-      le-leb 1 n (c .before .before .before .before .before .before .before .before .before .before .before .before .if1 .left),
-      le-leb n 32 (c .before .before .before .before .before .before .before .before .before .before .before .if2 .left),
-      eq-eqb (length (a .firsts .now)) n (c .before .before .before .before .before .before .before .before .before .before .if3 .left),
-      eq-eqb (length (a .ids .now)) n (c .before .before .before .before .before .before .before .before .before .if4 .left),
-      kept (c .before .before .before .before .before .before .before .before .leads-asked .ensures)
+      le-leb 1 n (f .before .before .before .before .if1 .left),
+      le-leb n 32 (f .before .before .before .if2 .left),
+      eq-eqb (length (a .firsts .now)) n (f .before .before .if3 .left),
+      eq-eqb (length (a .ids .now)) n (f .before .if4 .left),
+      kept (f .leads-asked .ensures)
           (c .before .before .before .before .before .before .before .if5 .left),
       le-leb (a .head .order) 2 (c .before .before .before .before .before .if6 .left),
       ne-eqb (a .head .step) 0 (c .before .before .before .if7 .left),

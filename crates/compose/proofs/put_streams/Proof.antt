@@ -30,7 +30,7 @@ loop-holds c =
     let p = c .before .before .before .before .before .before .pre in (
       le-refl (length (a .counts .now)),
       places-start (a .counts .now) (length (a .xs .now)),
-      rw (← (p .1 .1 .0)) (places-start (a .sizes .now) (length (a .part .now))),
+      rw (← (p .1 .0)) (places-start (a .sizes .now) (length (a .part .now))),
       refl,
       refl,
       put-none (a .section2 .now) (a .order) (a .counts .now) (a .xs .now) (a .part .now),
@@ -51,29 +51,34 @@ cast-at c = omega (arith, c .shared-slice-known5 .given (c .before .before .loop
 
 sub-at : tie.Need-sub-at Inv-loop μ-loop
 sub-at c =
-    let a = c .before .before .before .before .before .before .before .before .before .args in
-    let p = c .before .before .before .before .before .before .before .before .before .pre in
-    let l = c .before .before .loop in
+    let i = c .before .before in
+    let a = i .before .before .before .before .before .before .before .args in
+    let p = i .before .before .before .before .before .before .before .pre in
+    let l = i .loop in
     let t = c .before .loop-test .taken in
-    room-back (a .counts .now) (l .k) t (l .inv .0) (l .at) (length (a .xs .now)) (l .inv .1) (p .1 .0 .2)
+    room-back (a .counts .now) (l .k) t (l .inv .0) (l .at) (length (a .xs .now)) (l .inv .1) (p .0 .0 .3)
 
 mul-from : tie.Need-mul-from Inv-loop μ-loop
 mul-from c = omega arith
 
 shared-slice-read-from : tie.Need-shared-slice-read-from Inv-loop μ-loop
-shared-slice-read-from c = omega (arith, c .before .before .before .before .before .before .before .before .before .before .pre .1 .1 .0, c .before .before .loop-test .taken, c .before .before .before .loop .inv .0)
+shared-slice-read-from c =
+    let i = c .before .before .before in
+    let p = i .before .before .before .before .before .before .before .pre in
+    omega (arith, p .1 .0, c .before .before .loop-test .taken, i .loop .inv .0)
 
 cast-from : tie.Need-cast-from Inv-loop μ-loop
 cast-from c = omega (arith, c .shared-slice-known6 .given (c .before .before .before .loop .k - 1))
 
 sub-from : tie.Need-sub-from Inv-loop μ-loop
 sub-from c =
-    let a = c .before .before .before .before .before .before .before .before .before .before .args in
-    let p = c .before .before .before .before .before .before .before .before .before .before .pre in
-    let l = c .before .before .before .loop in
+    let i = c .before .before .before in
+    let a = i .before .before .before .before .before .before .before .args in
+    let p = i .before .before .before .before .before .before .before .pre in
+    let l = i .loop in
     let t = c .before .before .loop-test .taken in
-    room-back (a .sizes .now) (l .k) t (le-trans (l .inv .0) (le-of-eq (sym (p .1 .1 .0)))) (l .from) (length (a .part .now)) (l .inv .2)
-    (p .1 .1 .1)
+    room-back (a .sizes .now) (l .k) t (le-trans (l .inv .0) (le-of-eq (sym (p .1 .0)))) (l .from) (length (a .part .now)) (l .inv .2)
+    (p .1 .1)
 
 mul-put-lead : tie.Need-mul-put-lead Inv-loop μ-loop
 mul-put-lead c = omega arith
@@ -98,22 +103,23 @@ part-put-lead-end-2 c = let l = c .before .before .before .before .before .loop 
 
 put-lead-requires : tie.Need-put-lead-requires Inv-loop μ-loop
 put-lead-requires c κs =
-    let a = c .before .before .before .before .before .before .before .before .before .before .before .before .before .args in
-    let p = c .before .before .before .before .before .before .before .before .before .before .before .before .before .pre in
-    let l = c .before .before .before .before .before .before .loop in
+    let i = c .before .before .before .before .before .before in
+    let a = i .before .before .before .before .before .before .before .args in
+    let p = i .before .before .before .before .before .before .before .pre in
+    let l = i .loop in
     let t = c .before .before .before .before .before .loop-test .taken in
-    let e = length-lent (a .counts .now) (l .k) t (l .inv .0) (l .at) (length (a .xs .now)) (l .inv .1) (p .1 .0 .2) (a .xs .now) refl in
+    let e = length-lent (a .counts .now) (l .k) t (l .inv .0) (l .at) (length (a .xs .now)) (l .inv .1) (p .0 .0 .3) (a .xs .now) refl in
     let m = in-longest (a .counts .now) (l .k - 1) in
     let size = getD (a .sizes .now) (l .k - 1) 0 in
-    let r = room-back (a .sizes .now) (l .k) t (le-trans (l .inv .0) (le-of-eq (sym (p .1 .1 .0)))) (l .from) (length (a .part .now)) (l .inv .2)
-    (p .1 .1 .1) in
+    let g = le-trans (l .inv .0) (le-of-eq (sym (p .1 .0))) in
+    let r = room-back (a .sizes .now) (l .k) t g (l .from) (length (a .part .now)) (l .inv .2) (p .1 .1) in
     let long = mid-len (l .from - size) (l .from) (l .part) (omega (arith, l .inv .2, l .inv .4)) in (
-      p .0,
+      (p .0 .0 .0, p .0 .1),
       (
-        rw e (le-trans m (p .1 .0 .0)),
-        rw (e, l .inv .3) (le-trans (mul-le-mul-right (length (tablesGiven (a .section2 .now))) m) (p .1 .0 .1)),
-        stream-here (a .section2 .now) (a .order) (a .counts .now) (a .xs .now) (a .sizes .now) (p .1 .1 .2) (l .k) t (l .inv .0)
-            (l .at) (length (a .xs .now)) (l .inv .1) (p .1 .0 .2) _ (long ∙ omega (arith, r)),
+        rw e (le-trans m (p .0 .0 .1)),
+        rw (e, l .inv .3) (le-trans (mul-le-mul-right (length (tablesGiven (a .section2 .now))) m) (p .0 .0 .2)),
+        stream-here (a .section2 .now) (a .order) (a .counts .now) (a .xs .now) (a .sizes .now) (p .1 .2) (l .k) t (l .inv .0)
+            (l .at) (length (a .xs .now)) (l .inv .1) (p .0 .0 .3) _ (long ∙ omega (arith, r)),
       ),
     )
 
@@ -122,22 +128,23 @@ loop-less c = omega (arith, c .before .before .before .before .before .before .b
 
 loop-again : tie.Need-loop-again Inv-loop μ-loop
 loop-again c =
-    let a = c .before .before .before .before .before .before .before .before .before .before .before .before .before .before .before .before .before .before .args in
-    let p = c .before .before .before .before .before .before .before .before .before .before .before .before .before .before .before .before .before .before .pre in
-    let l = c .before .before .before .before .before .before .before .before .before .before .before .loop in
+    let i = c .before .before .before .before .before .before .before .before .before .before .before in
+    let a = i .before .before .before .before .before .before .before .args in
+    let p = i .before .before .before .before .before .before .before .pre in
+    let l = i .loop in
     let t = c .before .before .before .before .before .before .before .before .before .before .loop-test .taken in
     let w = c .before .before .before .before .put-lead in
     let size = getD (a .sizes .now) (l .k - 1) 0 in
-    let r = room-back (a .sizes .now) (l .k) t (le-trans (l .inv .0) (le-of-eq (sym (p .1 .1 .0)))) (l .from) (length (a .part .now)) (l .inv .2)
-    (p .1 .1 .1) in (
+    let g = le-trans (l .inv .0) (le-of-eq (sym (p .1 .0))) in
+    let r = room-back (a .sizes .now) (l .k) t g (l .from) (length (a .part .now)) (l .inv .2) (p .1 .1) in (
       le-trans (sub-le _ _) (l .inv .0),
-      place-back (a .counts .now) (l .k) t (l .inv .0) (l .at) (length (a .xs .now)) (l .inv .1) (p .1 .0 .2),
-      place-back (a .sizes .now) (l .k) t (le-trans (l .inv .0) (le-of-eq (sym (p .1 .1 .0)))) (l .from) (length (a .part .now)) (l .inv .2)
-          (p .1 .1 .1),
+      place-back (a .counts .now) (l .k) t (l .inv .0) (l .at) (length (a .xs .now)) (l .inv .1) (p .0 .0 .3),
+      place-back (a .sizes .now) (l .k) t g (l .from) (length (a .part .now)) (l .inv .2) (p .1 .1),
       w .kept .1 .1 .1 .1 .0 ∙ l .inv .3,
-      same-len-mid (l .from - size) (l .from - (l .from - size)) (l .part) (w .last .1 .1 .1 .1 .1 .0) (w .kept .1 .1 .1 .1 .1 .0) ∙ l .inv .4,
-      put-more (a .section2 .now) (a .order) (a .counts .now) (a .xs .now) (a .sizes .now) (p .1 .1 .2) (l .k) t (l .inv .0)
-          (l .at) (length (a .xs .now)) (l .inv .1) (p .1 .0 .2) (l .part) _ (l .from) (omega (arith, l .inv .2, l .inv .4)) r
+      same-len-mid (l .from - size) (l .from - (l .from - size)) (l .part) (w .last .1 .1 .1 .1 .1 .0) (w .kept .1 .1 .1 .1 .1 .0)
+          ∙ l .inv .4,
+      put-more (a .section2 .now) (a .order) (a .counts .now) (a .xs .now) (a .sizes .now) (p .1 .2) (l .k) t (l .inv .0)
+          (l .at) (length (a .xs .now)) (l .inv .1) (p .0 .0 .3) (l .part) _ (l .from) (omega (arith, l .inv .2, l .inv .4)) r
           (w .ensures .0) (l .inv .5),
       λ z. w .ensures .1 z ∙ l .inv .6 z,
     )
@@ -154,8 +161,8 @@ returns c =
     let p = c .before .before .before .before .before .before .before .before .pre in
     let l = c .before .loop in
     let z : l .k ≡ 0 = omega arith in
-    let y = places-done (a .counts .now) (l .k) (l .at) (length (a .xs .now)) z (l .inv .1) (p .1 .0 .2) in
-    let x = places-done (a .sizes .now) (l .k) (l .from) (length (a .part .now)) z (l .inv .2) (p .1 .1 .1) in
+    let y = places-done (a .counts .now) (l .k) (l .at) (length (a .xs .now)) z (l .inv .1) (p .0 .0 .3) in
+    let x = places-done (a .sizes .now) (l .k) (l .from) (length (a .part .now)) z (l .inv .2) (p .1 .1) in
     (put-all (a .section2 .now) (a .order) (a .counts .now) (a .xs .now) (l .part) (l .k) (l .at) (l .from) z y x (l .inv .5), l .inv .6)
 
 pub put-streams-spec : {M : Type 1} → statement M

@@ -21,7 +21,7 @@ abbrev μ-loop : tie.MeasureT-loop
 μ-loop section2 tab counts xs order work₀ sizes₀ n k₀ at₀ number₀ work sizes k at number = k
 
 table-count-requires : tie.Need-table-count-requires Inv-loop μ-loop
-table-count-requires c κs = c .before .before .before .before .before .pre .0 .0
+table-count-requires c κs = c .before .before .before .before .before .pre .0 .0 .0
 
 loop-holds : tie.Need-loop-holds Inv-loop μ-loop
 loop-holds c =
@@ -49,10 +49,11 @@ cast-at c = omega (arith, c .shared-slice-known4 .given (c .before .before .loop
 
 sub-at : tie.Need-sub-at Inv-loop μ-loop
 sub-at c =
-    let a = c .before .before .before .before .before .before .before .before .before .args in
-    let p = c .before .before .before .before .before .before .before .before .before .pre in
-    let l = c .before .before .loop in
-    room-back (a .counts .now) (l .k) (omega arith) (l .inv .0) (l .at) (length (a .xs .now)) (l .inv .1) (p .1 .2)
+    let i = c .before .before in
+    let a = i .before .before .before .before .before .before .before .args in
+    let p = i .before .before .before .before .before .before .before .pre in
+    let l = i .loop in
+    room-back (a .counts .now) (l .k) (omega arith) (l .inv .0) (l .at) (length (a .xs .now)) (l .inv .1) (p .0 .0 .3)
 
 mul-stream-bits : tie.Need-mul-stream-bits Inv-loop μ-loop
 mul-stream-bits c = omega arith
@@ -68,16 +69,17 @@ part-stream-bits-end c = omega arith
 
 stream-bits-requires : tie.Need-stream-bits-requires Inv-loop μ-loop
 stream-bits-requires c κs =
-    let a = c .before .before .before .before .before .before .before .before .before .before .before .args in
-    let p = c .before .before .before .before .before .before .before .before .before .before .before .pre in
-    let l = c .before .before .before .before .loop in
-    let n = c .before .before .before .before .before .table-count in
-    let e = length-lent (a .counts .now) (l .k) (omega arith) (l .inv .0) (l .at) (length (a .xs .now)) (l .inv .1) (p .1 .2)
+    let i = c .before .before .before .before in
+    let a = i .before .before .before .before .before .before .before .args in
+    let p = i .before .before .before .before .before .before .before .pre in
+    let l = i .loop in
+    let n = i .before .table-count in
+    let e = length-lent (a .counts .now) (l .k) (omega arith) (l .inv .0) (l .at) (length (a .xs .now)) (l .inv .1) (p .0 .0 .3)
     (a .xs .now) refl in
     let m = in-longest (a .counts .now) (l .k - 1) in (
       (tablesGiven (a .section2 .now), p .0 .1, sym (n .ensures .0)),
-      omega (arith, e, m, p .1 .0),
-      rw (e, n .ensures .0) (omega (arith, mul-le-mul-right (length (tablesGiven (a .section2 .now))) m, p .1 .1, l .inv .2)),
+      omega (arith, e, m, p .0 .0 .1),
+      rw (e, n .ensures .0) (omega (arith, mul-le-mul-right (length (tablesGiven (a .section2 .now))) m, p .0 .0 .2, l .inv .2)),
     )
 
 number-with-requires : tie.Need-number-with-requires Inv-loop μ-loop
@@ -85,20 +87,22 @@ number-with-requires c κs = tt
 
 add-sizes : tie.Need-add-sizes Inv-loop μ-loop
 add-sizes c =
-    let n = c .before .before .before .before .before .before .before .before .before .table-count in
+    let i = c .before .before .before .before .before .before .before .before in
+    let n = i .before .table-count in
     omega (
       arith,
       sized-most (c .before .before .before .stream-bits .ensures .0 _
-          (c .before .before .before .before .before .before .before .before .before .before .before .before .before .before .before .pre .0 .1) (sym (n .ensures .0)) .0),
+          (i .before .before .before .before .before .before .before .pre .0 .1) (sym (n .ensures .0)) .0),
     )
 
 cast-sizes : tie.Need-cast-sizes Inv-loop μ-loop
 cast-sizes c =
-    let n = c .before .before .before .before .before .before .before .before .before .table-count in
+    let i = c .before .before .before .before .before .before .before .before in
+    let n = i .before .table-count in
     omega (
       arith,
       sized-most (c .before .before .before .stream-bits .ensures .0 _
-          (c .before .before .before .before .before .before .before .before .before .before .before .before .before .before .before .pre .0 .1) (sym (n .ensures .0)) .0),
+          (i .before .before .before .before .before .before .before .pre .0 .1) (sym (n .ensures .0)) .0),
     )
 
 mul-sizes : tie.Need-mul-sizes Inv-loop μ-loop
@@ -112,16 +116,17 @@ loop-less c = omega arith
 
 loop-again : tie.Need-loop-again Inv-loop μ-loop
 loop-again c =
-    let a = c .before .before .before .before .before .before .before .before .before .before .before .before .before .before .before .args in
-    let p = c .before .before .before .before .before .before .before .before .before .before .before .before .before .before .before .pre in
-    let l = c .before .before .before .before .before .before .before .before .loop in
-    let n = c .before .before .before .before .before .before .before .before .before .table-count in
+    let i = c .before .before .before .before .before .before .before .before in
+    let a = i .before .before .before .before .before .before .before .args in
+    let p = i .before .before .before .before .before .before .before .pre in
+    let l = i .loop in
+    let n = i .before .table-count in
     let s = c .before .before .before .stream-bits in (
       omega arith,
-      place-back (a .counts .now) (l .k) (omega arith) (l .inv .0) (l .at) (length (a .xs .now)) (l .inv .1) (p .1 .2),
+      place-back (a .counts .now) (l .k) (omega arith) (l .inv .0) (l .at) (length (a .xs .now)) (l .inv .1) (p .0 .0 .3),
       s .kept .1 .1 .1 .1 .0 ∙ l .inv .2,
       simp length-set (l .inv .3),
-      sized-more (a .counts .now) (l .k) (omega arith) (l .inv .0) (l .at) (length (a .xs .now)) (l .inv .1) (p .1 .2) (a .section2 .now)
+      sized-more (a .counts .now) (l .k) (omega arith) (l .inv .0) (l .at) (length (a .xs .now)) (l .inv .1) (p .0 .0 .3) (a .section2 .now)
           (a .order) (a .xs .now) (l .number) _ (s .result) (l .sizes) (omega (arith, l .inv .3)) (l .inv .4)
           (s .ensures .0 _ (p .0 .1) (sym (n .ensures .0)) .0) (c .number-with .ensures),
       λ z. s .ensures .1 z ∙ l .inv .5 z,
@@ -140,7 +145,7 @@ returns c =
     let l = c .before .loop in
     let z : l .k ≡ 0 = omega arith in (
       sized-all (a .section2 .now) (a .order) (a .counts .now) (a .xs .now) (l .number) (l .sizes) (l .k) (l .at) z
-          (places-done (a .counts .now) (l .k) (l .at) (length (a .xs .now)) z (l .inv .1) (p .1 .2)) (l .inv .4),
+          (places-done (a .counts .now) (l .k) (l .at) (length (a .xs .now)) z (l .inv .1) (p .0 .0 .3)) (l .inv .4),
       l .inv .5,
     )
 

@@ -42,8 +42,8 @@ put-streams-requires c κs =
     let t = c .before .before .before .before .before .before .total-of in
     let h = c .before .before .before .before .write-streams-head in
     let from = 22 + 2 * length (a .sizes .now) in
-    let m = mid-len from (from + t .result) (h .last .0) (omega (arith, h .kept .0, p .1 .1 .4, t .ensures .0)) in
-    (p .0, (p .1 .0, (p .1 .1 .2, omega (arith, m, t .ensures .0), p .1 .1 .3)))
+    let m = mid-len from (from + t .result) (h .last .0) (omega (arith, h .kept .0, p .1 .4, t .ensures .0)) in
+    (p .0, (p .1 .2, omega (arith, m, t .ensures .0), p .1 .3))
 
 put-spare-requires : tie.Need-put-spare-requires
 put-spare-requires c κs = search needs
@@ -59,11 +59,12 @@ same-length-2 c = search needs
 
 returns : tie.Need-returns
 returns c =
-    let a = c .before .before .before .before .before .before .before .before .before .before .before .before .before .before .before .before .before .before .before .before .before .before .before .before .before .before .args in
-    let p = c .before .before .before .before .before .before .before .before .before .before .before .before .before .before .before .before .before .before .before .before .before .before .before .before .before .before .pre in
-    let t = c .before .before .before .before .before .before .before .before .before .before .before .before .before .before .before .before .before .before .before .total-of in
-    let h = c .before .before .before .before .before .before .before .before .before .before .before .before .before .before .before .before .before .write-streams-head in
-    let b = c .before .before .before .before .before .before .before .before .before .before .before .before .put-streams in
+    let d = c .before .before .before .before .before .before .before .before .before .before .before .before in
+    let a = d .before .before .before .before .before .before .before .before .before .before .before .before .before .before .args in
+    let p = d .before .before .before .before .before .before .before .before .before .before .before .before .before .before .pre in
+    let t = d .before .before .before .before .before .before .before .total-of in
+    let h = d .before .before .before .before .before .write-streams-head in
+    let b = d .put-streams in
     let s = c .before .before .before .before .before .before .put-spare in
     let from = 22 + 2 * length (a .sizes .now) in
     let x = h .last .0 in
@@ -73,11 +74,11 @@ returns c =
     let long : length y ≡ length (a .part .now) = same-len-mid from (from + t .result - from) x zs (b .kept .1 .1 .1 .1 .1 .1 .1 .0)
     ∙ h .kept .0 in (
       λ streams found.
-          let are = sizes-streams (p .1 .1 .3) found in
+          let are = sizes-streams (p .1 .3) found in
           let even = section6-put (a .head .step) (a .head .interval) (a .head .order) (a .sizes .now) streams are
-          (a .part .now) x y z zs from (from + t .result) refl (ap (λ (n : ℕ). from + n) (t .ensures .0)) (p .1 .1 .4)
+          (a .part .now) x y z zs from (from + t .result) refl (ap (λ (n : ℕ). from + n) (t .ensures .0)) (p .1 .4)
           (h .ensures) refl (b .ensures .0 streams found) long (s .ensures) in
-          let size = section6-size (a .head .step) (a .head .interval) (a .head .order) (a .sizes .now) streams are (p .1 .1 .4) in
+          let size = section6-size (a .head .step) (a .head .interval) (a .head .order) (a .sizes .now) streams are (p .1 .4) in
           c .before .before .seal .ensures .1 (streamsData (a .head .step) (a .head .interval) (a .head .order) streams) even
           (s .kept .0 ∙ long ∙ size),
       b .ensures .1,
