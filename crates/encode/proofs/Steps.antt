@@ -12,9 +12,10 @@ use lib.ListN.{length, getD, take, drop, length-append, drop-of-length-le}
 use lib.Seq.{drop-cons}
 use Rattle.bits.specs.Bits.{highBits, bitsIn}
 use Rattle.bits.specs.InnerRaised.{lower}
-use Rattle.bits.proofs.Laws.{length-highBits}
+use Rattle.bits.specs.InnerWindow.{turned}
+use Rattle.bits.proofs.Laws.{length-lowBits, length-highBits, small-lowBits}
 use Rattle.tables.specs.declared.Structure.{Structure}
-use Rattle.tables.specs.Structures.{structureRight}
+use Rattle.tables.specs.Structures.{structureRight, prefixOf, remainderOf}
 use Rattle.compiled.specs.declared.Form.{Form}
 use Rattle.compiled.specs.InnerForm.{formOf, Ready}
 use Rattle.compiled.proofs.Laws.{FineForm}
@@ -27,9 +28,9 @@ use Rattle.packing.proofs.Sinks.{holds-length, rest-later}
 use Rattle.paths.specs.InnerPaths.{Kind, dead, gives, leads, There, Best, Alive, Hop}
 use Rattle.paths.proofs.Optimal.{best-unique, nothing-left}
 use Rattle.shortest.specs.Shortest.{Shortest}
-use Rattle.shortest.specs.InnerRule.{kindOf, wordOf, structureOf, rule}
-use Rattle.shortest.proofs.Laws.{leads-switch}
-use Rattle.shortest.proofs.Forms.{form-word, form-leads}
+use Rattle.shortest.specs.InnerRule.{twos, kindOf, wordOf, structureOf, rule}
+use Rattle.shortest.proofs.Laws.{own-bits, kind-switch, leads-switch}
+use Rattle.shortest.proofs.Forms.{form-leads}
 use Rattle.shortest.proofs.Bridge.{sound, shortest-of, unique}
 use Rattle.search.specs.InnerSearch.{FilledBy, cap, Trail, Planned, countOf, formIn}
 use Rattle.search.proofs.Laws.{counted, count-most, form-there, right-there, small-there, fine-there}
@@ -37,8 +38,20 @@ use Rattle.encode.specs.InnerEncode.{codeOf}
 
 -- ---- a code put behind what was written
 
-length-code : (f : Form) (v : ℕ) → length (codeOf f v) ≡ f .prefix + f .remainder
+length-code : (f : Form) (v : ℤ) → length (codeOf f v) ≡ f .prefix + f .remainder
 length-code f v = simp (length-append, length-highBits)
+
+-- it is the structure's word
+form-code : (c : Structure) (v : ℤ) (f : Form) → formOf c ≡ f → wordOf c v ≡ codeOf f v
+unfolding formOf wordOf turned
+form-code c v f form =
+    let own = own-bits (prefixOf c) (c .prefix) (small-lowBits (c .prefix) (c .code)) (length-lowBits (c .prefix) (c .code)) in
+    rw (← form) (ap (λ (p : List ℕ). p ++ highBits (remainderOf c) (twos (remainderOf c) v)) (sym own))
+
+-- without a remainder it is the prefix
+pub code-prefix : (f : Form) (v : ℤ) → f .remainder ≡ 0 → codeOf f v ≡ highBits (f .prefix) (f .word)
+unfolding highBits
+code-prefix f v e = rw e (append-nil (highBits (f .prefix) (f .word)))
 
 -- a sink holds some bits
 pub holds-some : (out : List ℕ) (s : Sink) → s .part < 8 → s .acc < 2 ^ s .part → s .at ≤ length out
@@ -122,7 +135,7 @@ module _ {tables : List (List Structure)} {tab : List ℕ} (ready : Ready tables
   place-most : getD work (i * n + (t - 1)) 0 < 64
   place-most = omega (arith, within, count-most ready t range)
 
-  -- its form, and the value there, 131,072 added
+  -- its form
   module _ (f : Form) (e : f ≡ formIn tab t (getD work (i * n + (t - 1)) 0)) where
     fine-next : FineForm f
     fine-next = rw e (fine-there ready t range (getD work (i * n + (t - 1)) 0) within)
@@ -136,56 +149,51 @@ module _ {tables : List (List Structure)} {tab : List ℕ} (ready : Ready tables
     small : structureOf tables t (getD work (i * n + (t - 1)) 0) .base < 65536
     small = small-there ready t range (getD work (i * n + (t - 1)) 0) within
 
-    module _ (x : ℕ) (value : lower 131072 x ≡ getD vs i (pos 0)) where
-      word : wordOf (structureOf tables t (getD work (i * n + (t - 1)) 0)) (getD vs i (pos 0)) ≡ codeOf f x
-      word =
-          let c = structureOf tables t (getD work (i * n + (t - 1)) 0) in
-          ap (wordOf c) (sym value) ∙ form-word 8 c right small f form x
+    is : O .s ≡ codeOf f (getD vs i (pos 0)) ++ hop .rest
+    is =
+        let c = structureOf tables t (getD work (i * n + (t - 1)) 0) in
+        let v = getD vs i (pos 0) in
+        best-unique (rule tables) t (v ∷ drop (i + 1) vs) (O .s) (wordOf c v ++ hop .rest) first (hop .whole)
+        ∙ ap (λ (l : List ℕ). l ++ hop .rest) (form-code c v f form)
 
-      is : O .s ≡ codeOf f x ++ hop .rest
-      is =
+    code-length : f .prefix + f .remainder + length (hop .rest) ≡ left
+    code-length = omega (arith, ap length is, length-append (codeOf f (getD vs i (pos 0))) (hop .rest), length-code f (getD vs i (pos 0)), O .rest)
+
+    code-most : f .prefix + f .remainder ≤ left
+    code-most = omega (arith, code-length)
+
+    -- its code is put
+    module _ (out′ : List ℕ) (sink′ : Sink) (put : Holds out′ sink′ (O .w ++ codeOf f (getD vs i (pos 0)))) where
+      onward : (i′ t′ : ℕ) → There (rule tables) t′ → Best (rule tables) t′ (drop i′ vs) (hop .rest)
+          → On tables vs total out′ sink′ i′ t′ (left - (f .prefix + f .remainder))
+      onward i′ t′ there best = record {
+        table = there;
+        s = hop .rest;
+        best = best;
+        rest = omega (arith, code-length);
+        w = O .w ++ codeOf f (getD vs i (pos 0));
+        holds = put;
+        sum = omega (arith, code-length, O .sum, length-append (O .w) (codeOf f (getD vs i (pos 0))), length-code f (getD vs i (pos 0)));
+        all = λ z h. O .all z h ∙ ap (λ (l : List ℕ). O .w ++ l) is ∙ sym (append-assoc (O .w) (codeOf f (getD vs i (pos 0))) (hop .rest));
+      }
+
+      -- a value: on to the next sample
+      on-value : f .to ≡ 0 → On tables vs total out′ sink′ (i + 1) t (left - (f .prefix + f .remainder))
+      on-value z =
           let c = structureOf tables t (getD work (i * n + (t - 1)) 0) in
+          let kind = alive-gives c (getD vs i (pos 0)) (to-value 8 c right (ap (λ (g : Form). g .to) form ∙ z)) (hop .alive) in
+          onward (i + 1) t (O .table) (rw kind at (hop .after))
+
+      -- a switch: on to its table
+      on-switch : (f .to ≡ 0 → ⊥) → On tables vs total out′ sink′ i (f .to) (left - (f .prefix + f .remainder))
+      on-switch h =
+          let k = getD work (i * n + (t - 1)) 0 in
+          let c = structureOf tables t k in
           let v = getD vs i (pos 0) in
-          best-unique (rule tables) t (v ∷ drop (i + 1) vs) (O .s) (wordOf c v ++ hop .rest) first (hop .whole)
-          ∙ ap (λ (l : List ℕ). l ++ hop .rest) word
-
-      code-length : f .prefix + f .remainder + length (hop .rest) ≡ left
-      code-length = omega (arith, ap length is, length-append (codeOf f x) (hop .rest), length-code f x, O .rest)
-
-      code-most : f .prefix + f .remainder ≤ left
-      code-most = omega (arith, code-length)
-
-      -- its code is put
-      module _ (out′ : List ℕ) (sink′ : Sink) (put : Holds out′ sink′ (O .w ++ codeOf f x)) where
-        onward : (i′ t′ : ℕ) → There (rule tables) t′ → Best (rule tables) t′ (drop i′ vs) (hop .rest)
-            → On tables vs total out′ sink′ i′ t′ (left - (f .prefix + f .remainder))
-        onward i′ t′ there best = record {
-          table = there;
-          s = hop .rest;
-          best = best;
-          rest = omega (arith, code-length);
-          w = O .w ++ codeOf f x;
-          holds = put;
-          sum = omega (arith, code-length, O .sum, length-append (O .w) (codeOf f x), length-code f x);
-          all = λ z h. O .all z h ∙ ap (λ (l : List ℕ). O .w ++ l) is ∙ sym (append-assoc (O .w) (codeOf f x) (hop .rest));
-        }
-
-        -- a value: on to the next sample
-        on-value : f .to ≡ 0 → On tables vs total out′ sink′ (i + 1) t (left - (f .prefix + f .remainder))
-        on-value z =
-            let c = structureOf tables t (getD work (i * n + (t - 1)) 0) in
-            let kind = alive-gives c (getD vs i (pos 0)) (to-value 8 c right (ap (λ (g : Form). g .to) form ∙ z)) (hop .alive) in
-            onward (i + 1) t (O .table) (rw kind at (hop .after))
-
-        -- a switch: on to its table
-        on-switch : (f .to ≡ 0 → ⊥) → On tables vs total out′ sink′ i (f .to) (left - (f .prefix + f .remainder))
-        on-switch h =
-            let k = getD work (i * n + (t - 1)) 0 in
-            let c = structureOf tables t k in
-            let v = getD vs i (pos 0) in
-            let kind : kindOf c v ≡ leads (f .to) = ap (kindOf c) (sym value) ∙ form-leads 8 c right small f form x h in
-            onward i (f .to) (sound tables (ready .right) (ready .some) .onto t k (f .to) v (O .table) (hop .inside) kind)
-            (rw (drop-cons vs i (pos 0) inside, ← add-one i) (rw kind at (hop .after)))
+          let to = leads-switch c (lower 131072 0) (f .to) (form-leads 8 c right small f form 0 h) in
+          let kind : kindOf c v ≡ leads (f .to) = kind-switch c v (to .0) ∙ ap leads (to .1) in
+          onward i (f .to) (sound tables (ready .right) (ready .some) .onto t k (f .to) v (O .table) (hop .inside) kind)
+          (rw (drop-cons vs i (pos 0) inside, ← add-one i) (rw kind at (hop .after)))
 
 -- ---- all sets of tables that the numbers say
 
@@ -237,37 +245,36 @@ module _ {tab : List ℕ} {n : ℕ} {vs : List ℤ} {total : ℕ} {out₀ out : 
       pub next-fine : FineForm f
       next-fine = fine-next (filled .1) vs work n total (filled .2) way few out sink i t left on-some more f e
 
-      module _ (x : ℕ) (value : lower 131072 x ≡ getD vs i (pos 0)) where
-        pub next-most : f .prefix + f .remainder ≤ left
-        next-most = code-most (filled .1) vs work n total (filled .2) way few out sink i t left on-some more f e x value
+      pub next-most : f .prefix + f .remainder ≤ left
+      next-most = code-most (filled .1) vs work n total (filled .2) way few out sink i t left on-some more f e
 
-        -- its code is put
-        module _ (out′ : List ℕ) (sink′ : Sink) (put : (bs : List ℕ) → Holds out sink bs → Holds out′ sink′ (bs ++ codeOf f x))
-            (long : length out′ ≡ length out) (back : drop (sink′ .at) out′ ≡ drop (sink′ .at) out) where
-          going-on : (i′ t′ : ℕ)
-              → ((tables : List (List Structure)) → Ready tables tab → length tables ≡ n
-              → On tables vs total out′ sink′ i′ t′ (left - (f .prefix + f .remainder)))
-              → Going tab n vs total out₀ out′ sink′ i′ t′ (left - (f .prefix + f .remainder))
-          going-on i′ t′ on = record {
-            same = long ∙ G .same;
-            behind = (let O = on-some in
-                rest-on out₀ out out′ sink sink′ (O .w) (codeOf f x) (O .holds) (put (O .w) (O .holds)) (G .behind) back);
-            on = on;
-          }
+      -- its code is put
+      module _ (out′ : List ℕ) (sink′ : Sink) (put : (bs : List ℕ) → Holds out sink bs → Holds out′ sink′ (bs ++ codeOf f (getD vs i (pos 0))))
+          (long : length out′ ≡ length out) (back : drop (sink′ .at) out′ ≡ drop (sink′ .at) out) where
+        going-on : (i′ t′ : ℕ)
+            → ((tables : List (List Structure)) → Ready tables tab → length tables ≡ n
+            → On tables vs total out′ sink′ i′ t′ (left - (f .prefix + f .remainder)))
+            → Going tab n vs total out₀ out′ sink′ i′ t′ (left - (f .prefix + f .remainder))
+        going-on i′ t′ on = record {
+          same = long ∙ G .same;
+          behind = (let O = on-some in
+              rest-on out₀ out out′ sink sink′ (O .w) (codeOf f (getD vs i (pos 0))) (O .holds) (put (O .w) (O .holds)) (G .behind) back);
+          on = on;
+        }
 
-          pub going-value : f .to ≡ 0 → Going tab n vs total out₀ out′ sink′ (i + 1) t (left - (f .prefix + f .remainder))
-          going-value z =
-              going-on (i + 1) t (λ tables ready many.
-              let O = G .on tables ready many in
-              on-value ready vs work n total many (plan tables ready many .trail) few out sink i t left O more f e x value out′ sink′
-              (put (O .w) (O .holds)) z)
+        pub going-value : f .to ≡ 0 → Going tab n vs total out₀ out′ sink′ (i + 1) t (left - (f .prefix + f .remainder))
+        going-value z =
+            going-on (i + 1) t (λ tables ready many.
+            let O = G .on tables ready many in
+            on-value ready vs work n total many (plan tables ready many .trail) few out sink i t left O more f e out′ sink′
+            (put (O .w) (O .holds)) z)
 
-          pub going-switch : (f .to ≡ 0 → ⊥) → Going tab n vs total out₀ out′ sink′ i (f .to) (left - (f .prefix + f .remainder))
-          going-switch h =
-              going-on i (f .to) (λ tables ready many.
-              let O = G .on tables ready many in
-              on-switch ready vs work n total many (plan tables ready many .trail) few out sink i t left O more f e x value out′ sink′
-              (put (O .w) (O .holds)) h)
+        pub going-switch : (f .to ≡ 0 → ⊥) → Going tab n vs total out₀ out′ sink′ i (f .to) (left - (f .prefix + f .remainder))
+        going-switch h =
+            going-on i (f .to) (λ tables ready many.
+            let O = G .on tables ready many in
+            on-switch ready vs work n total many (plan tables ready many .trail) few out sink i t left O more f e out′ sink′
+            (put (O .w) (O .holds)) h)
 
 -- nothing is left: the stream stands at the front
 pub going-end : {tab : List ℕ} {n : ℕ} {vs : List ℤ} {total : ℕ} {out₀ out : List ℕ} {sink : Sink} {i t left : ℕ}

@@ -1,5 +1,5 @@
 -- What writing a lead's stream asks and leaves. No public contract rests on this.
-use Prim.Native.Nat.{ℕ, zero, suc, _%_, _^_, min}
+use Prim.Native.Nat.{ℕ, zero, suc, min}
 use mathlib.Core.Path.{_≡_}
 use mathlib.Core.List.{List, [], _++_}
 use mathlib.Core.Logic.{_⊎_}
@@ -10,13 +10,14 @@ use Rattle.bits.specs.Bits.{highBits}
 use Rattle.tables.specs.declared.Structure.{Structure}
 use Rattle.compiled.specs.declared.Form.{Form}
 use Rattle.compiled.specs.InnerForm.{Holding}
+use Rattle.shortest.specs.InnerRule.{twos}
 use Rattle.search.specs.InnerSearch.{Planned}
 use Rattle.encode.specs.declared.Coded.{Coded}
 use Rattle.encode.specs.Encoding.{Found, foundRefusal, codedAs, outAs}
 
--- the code word of a structure's form for a value, 131,072 added
-abbrev pub codeOf : Form → ℕ → List ℕ
-codeOf f v = highBits (f .prefix) (f .word) ++ highBits (f .remainder) (v % 2 ^ f .remainder)
+-- the code word of a structure's form for a value
+abbrev pub codeOf : Form → ℤ → List ℕ
+codeOf f v = highBits (f .prefix) (f .word) ++ highBits (f .remainder) (twos (f .remainder) v)
 
 -- the numbers hold some n tables, or none where n is 0
 abbrev pub HeldBy : List ℕ → ℕ → Type 0

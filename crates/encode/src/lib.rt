@@ -4,7 +4,8 @@ ghost use mathlib.Core.Bool.{true};
 ghost use mathlib.Core.List.{List, [], _++_};
 ghost use mathlib.Core.Option.{Option, some};
 ghost use Prim.Native.Nat.{ℕ, suc, _+_, _*_, _/_, _%_, _^_, _<_, _≤_};
-ghost use lib.ListN.{length, take, drop, replicate};
+ghost use lib.IntN.{pos};
+ghost use lib.ListN.{length, getD, take, drop, replicate};
 ghost use Rattle.packing.specs.Packing.{packed, bytesFor};
 ghost use Rattle.packing.specs.InnerSink.{Holds};
 ghost use Rattle.samples.specs.Differences.{differences};
@@ -31,16 +32,22 @@ pub struct Coded {
     pub bits: u32,
 }
 
-// A structure's code for a value, 131,072 added: the prefix, then the bits of the remainder.
-fn put_code(sink: Sink, out: &mut [u8], f: Form, v: usize) -> Sink
-    requires { ⌜ (f .prefix ≤ 32) × (f .remainder ≤ 16) × (f .word < 2 ^ f .prefix) ⌝ }
+// A structure's code for the value at place i: the prefix, then the bits of the remainder. Most codes have none, and their value is
+// not looked at.
+fn put_code(sink: Sink, out: &mut [u8], f: Form, xs: &[i16], order: usize, i: usize) -> Sink
+    requires { ⌜ (f .prefix ≤ 32) × (f .remainder ≤ 16) × (f .word < 2 ^ f .prefix) × (i < length (now xs)) ⌝ }
     requires { ⌜ (sink .part < 8) × (sink .acc < 2 ^ sink .part)
         × ((sink .at * 8 + sink .part + (f .prefix + f .remainder)) / 8 ≤ length (now out)) ⌝ }
-    ensures { λ r. ⌜ ((bs : List ℕ) → Holds (now (out .entry)) sink bs → Holds (now (out .exit)) r (bs ++ codeOf f v))
+    ensures { λ r. ⌜ ((bs : List ℕ) → Holds (now (out .entry)) sink bs
+        → Holds (now (out .exit)) r (bs ++ codeOf f (getD (differences order (now (xs .entry))) i (pos 0))))
         × (length (now (out .exit)) ≡ length (now (out .entry)))
         × (drop (r .at) (now (out .exit)) ≡ drop (r .at) (now (out .entry))) ⌝ }
 {
     let p = sink.put(out, f.word, f.prefix);
+    if f.remainder == 0 {
+        return p;
+    }
+    let v = samples::value_at(xs, order, i);
     p.put(out, v % tables::power(f.remainder), f.remainder)
 }
 
@@ -61,8 +68,7 @@ fn walk(tab: &[u32], n: usize, xs: &[i16], order: usize, work: &[u8], bits: usiz
     while 0 < left {
         let k = work[i * n + (t - 1)] as usize;
         let f = compiled::form_at(tab, t - 1, k);
-        let v = samples::value_at(xs, order, i);
-        sink = put_code(sink, out, f, v);
+        sink = put_code(sink, out, f, xs, order, i);
         left -= f.prefix + f.remainder;
         if f.to == 0 {
             i += 1;

@@ -10,7 +10,7 @@ use native.Mathlib.Omega.{arith}
 use borrow.Author.Count.{below-more}
 use borrow.Author.Tests.{eq-eqb, ne-eqb}
 use lib.IntN.{ℤ}
-use lib.ListN.{length, getD, set}
+use lib.ListN.{length, getD, set, replicate, length-set, length-replicate, getD-replicate}
 use lib.Pow.{shl-lt}
 use lib.Seq.{getD-set-same, getD-set-other}
 use Rattle.bits.specs.InnerRaised.{lower}
@@ -27,7 +27,7 @@ use Rattle.shortest.specs.InnerRule.{kindOf, wordOf, structureOf, rule}
 use Rattle.shortest.proofs.Laws.{leads-switch}
 use Rattle.shortest.proofs.Forms.{form-leads, form-length, rank-not-after}
 use Rattle.shortest.proofs.Bridge.{sound}
-use Rattle.search.specs.InnerSearch.{cap, countOf, formIn, bitsOf, rankIn, Place, at, leapOf, Served, Valued, ValuedTo, LeastOf, Shut, AllMet, Smaller, Picked, PickedFrom}
+use Rattle.search.specs.InnerSearch.{cap, countOf, formIn, bitsOf, rankIn, Place, at, leapOf, Served, IsNearest, Known, Valued, ValuedTo, LeastOf, Shut, AllMet, Smaller, Picked, PickedFrom}
 
 -- ---- what the numbers say of a table's rule
 
@@ -173,6 +173,33 @@ served-skip tables x t k best n s =
     (λ w. inl (w .0, none-more (rule tables) (lower 131072 x) t k (w .1) n))
     (λ N. inr (nearest-more (rule tables) (lower 131072 x) t k best N n))
     s
+
+-- nothing is known
+pub known-none : (tab : List ℕ) → Known tab (replicate 2048 255)
+known-none tab = record {
+  room = length-replicate {A = ℕ} 2048 255;
+  found = λ t x a b c d h. absurd (omega (arith, getD-replicate {A = ℕ} 2048 ((t - 1) * 256 + (x - 130944)) 255 0 (omega arith)));
+}
+
+-- one value more
+pub known-more : {tab known : List ℕ} → Known tab known → (t x k : ℕ) → (1 ≤ t) × (t ≤ 8) → 130944 ≤ x → x < 131200 → IsNearest tab t x k
+    → Known tab (set known ((t - 1) * 256 + (x - 130944)) k)
+known-more {tab} {known} K t x k h low high new = record {
+  room = simp length-set (K .room);
+  found = λ u y a b c d small. go u y a b c d small (ℕ-discrete ((u - 1) * 256 + (y - 130944)) ((t - 1) * 256 + (x - 130944)));
+}
+  where
+    go : (u y : ℕ) → 1 ≤ u → u ≤ 8 → 130944 ≤ y → y < 131200
+        → getD (set known ((t - 1) * 256 + (x - 130944)) k) ((u - 1) * 256 + (y - 130944)) 0 ≤ 64
+        → Dec ((u - 1) * 256 + (y - 130944) ≡ (t - 1) * 256 + (x - 130944))
+        → IsNearest tab u y (getD (set known ((t - 1) * 256 + (x - 130944)) k) ((u - 1) * 256 + (y - 130944)) 0)
+    go u y a b c d small (yes e) =
+        let i : u ≡ t = omega arith in
+        let j : y ≡ x = omega arith in
+        rw (i, j) (rw (getD-set-same known ((t - 1) * 256 + (x - 130944)) k 0 (omega (arith, K .room))) new)
+    go u y a b c d small (no n) =
+        let same = getD-set-other known ((t - 1) * 256 + (x - 130944)) ((u - 1) * 256 + (y - 130944)) k 0 n in
+        rw same (K .found u y a b c d (rw same at small))
 
 -- what it costs
 pub valued : {tables : List (List Structure)} {tab : List ℕ} (ready : Ready tables tab) (next : List ℕ) (x t k c : ℕ) → (1 ≤ t) × (t ≤ 8)

@@ -1,9 +1,9 @@
 -- A layer's costs are exact and its choices begin the best streams; and the layers joined, from the last value to the first. Assumes
 -- nothing.
-use Prim.Native.Nat.{ℕ, suc, _+_, _-_, _*_, _≤_, _<_, min}
+use Prim.Native.Nat.{ℕ, zero, suc, _+_, _-_, _*_, _≤_, _<_, min}
 use mathlib.Core.Path.{_≡_, refl, sym, ap, _∙_}
 use mathlib.Core.Bool.{Bool, true, false, cond}
-use mathlib.Core.List.{List, _∷_, _++_}
+use mathlib.Core.List.{List, [], _∷_, _++_}
 use mathlib.Core.Logic.{_⊎_, inl, inr, ⊎-elim}
 use native.Mathlib.Nat.{eq-or-lt-of-le, mul-le-mul-right, suc-mul}
 use native.Mathlib.Numerals.{add-one}
@@ -12,8 +12,8 @@ use borrow.Author.Tests.{eqb-true, eq-eqb, le-leb}
 use borrow.Rule.Slice.PartMut.{putMid, postOf, drop-put}
 use lib.Dec.{eqb}
 use lib.IntN.{ℤ, pos}
-use lib.ListN.{length, getD, take, drop, replicate, getD-replicate, List·getD-append}
-use lib.Seq.{getD-append-add, getD-drop, length-take-le, drop-cons, drop-length}
+use lib.ListN.{length, getD, set, take, drop, replicate, getD-replicate, List·getD-append}
+use lib.Seq.{getD-set-same, getD-set-other, getD-append-add, getD-drop, length-take-le, drop-cons, drop-length}
 use Rattle.bits.specs.InnerRaised.{lower}
 use Rattle.tables.specs.declared.Structure.{Structure}
 use Rattle.tables.specs.Section2.{tableOf}
@@ -23,8 +23,8 @@ use Rattle.paths.proofs.Optimal.{join-met, join-sum, exact-nil, exact, hop, som
 use Rattle.paths.proofs.Layer.{cost-value, cost-switch, met-value, met-none, SwitchesClosed, closed-none, closed-nearest, BeforeSwitches, chosen-none, chosen-nearest}
 use Rattle.shortest.specs.InnerRule.{wordOf, structureOf, rule}
 use Rattle.shortest.proofs.Bridge.{sound}
-use Rattle.search.specs.InnerSearch.{cap, Shows, Trail, countOf, formIn, Place, at, leapOf, Valued, ValuedTo, AllMet, Settled, Picked, PickedFrom, Layer, Nine}
-use Rattle.search.proofs.Laws.{counted, count-most, bits-there, leads-there, leap-cost, leap-switch, not-after}
+use Rattle.search.specs.InnerSearch.{cap, Shows, Trail, countOf, formIn, bitsOf, NoSwitch, Place, at, leapOf, IsNearest, Valued, ValuedTo, AllMet, Settled, Picked, PickedFrom, Layer, Nine}
+use Rattle.search.proofs.Laws.{counted, count-most, bits-there, leads-there, leap-cost, leap-switch, not-after, valued}
 
 -- ---- one layer: the value x, 131,072 added, before the values vs
 
@@ -182,7 +182,7 @@ pub place-valued : {tables : List (List Structure)} {tab : List ℕ} → Ready t
 place-valued ready next x t k c h w = ⊎-elim (λ z. inl (z .0)) (λ z. inr (omega (arith, z .0 .inside, counted ready t h))) w
 
 module _ (tab : List ℕ) (n : ℕ) (first : List ℕ) (few : n ≤ 8) (nine : Nine first)
-    (none : (t k : ℕ) → 1 ≤ t → t ≤ n → k < countOf tab t → formIn tab t k .to ≡ 0) where
+    (none : NoSwitch tab n) where
   no-leap : (t k : ℕ) → 1 ≤ t → t ≤ n → k < countOf tab t → leapOf tab first t k ≡ suc cap
   no-leap t k a b h = rw (eq-eqb (formIn tab t k .to) 0 (none t k a b h))
 
@@ -224,14 +224,14 @@ part-room i n l w h m r =
 
 -- a part put back into a list
 module _ (xs ys : List ℕ) (a n : ℕ) (l : length ys ≡ n) (r : a + n ≤ length xs) where
-  put-in : (t : ℕ) → t < n → getD (putMid a (a + n - a) xs ys) (a + t) 0 ≡ getD ys t 0
+  pub put-in : (t : ℕ) → t < n → getD (putMid a (a + n - a) xs ys) (a + t) 0 ≡ getD ys t 0
   put-in t h =
       let e : length (take a xs) ≡ a = length-take-le a xs (omega arith) in
       ap (λ (m : ℕ). getD (putMid a (a + n - a) xs ys) (m + t) 0) (sym e)
       ∙ getD-append-add (take a xs) (ys ++ postOf a (a + n - a) xs) t 0
       ∙ List·getD-append ys (postOf a (a + n - a) xs) 0 t (omega arith)
 
-  put-out : (j : ℕ) → a + n ≤ j → getD (putMid a (a + n - a) xs ys) j 0 ≡ getD xs j 0
+  pub put-out : (j : ℕ) → a + n ≤ j → getD (putMid a (a + n - a) xs ys) j 0 ≡ getD xs j 0
   put-out j h =
       let d : drop (a + n) (putMid a (a + n - a) xs ys) ≡ drop (a + n) xs = drop-put a (a + n) xs ys (omega arith) r (omega arith) in
       let e : a + n + (j - (a + n)) ≡ j = omega arith in
@@ -241,33 +241,69 @@ module _ (xs ys : List ℕ) (a n : ℕ) (l : length ys ≡ n) (r : a + n ≤ len
       ∙ getD-drop (a + n) xs (j - (a + n)) 0
       ∙ ap (λ (m : ℕ). getD xs m 0) e
 
--- one value more, the one at p
-module _ (tables : List (List Structure)) (vs : List ℤ) (work ys costs : List ℕ) (n p i : ℕ) (v : ℤ) (all : length tables ≡ n)
-    (e : i ≡ p + 1) (hp : p < length vs) (is : v ≡ getD vs p (pos 0)) (L : Layer tables v (drop i vs) costs ys) (l : length ys ≡ n)
-    (room : p * n + n ≤ length work) (way : Trail tables vs work i) where
+-- one value more, the one at p, whose first steps ys stand in the work space now
+module _ (tables : List (List Structure)) (vs : List ℤ) (work after ys costs : List ℕ) (n p i : ℕ) (v : ℤ) (all : length tables ≡ n)
+    (e : i ≡ p + 1) (hp : p < length vs) (is : v ≡ getD vs p (pos 0)) (L : Layer tables v (drop i vs) costs ys)
+    (new : (t : ℕ) → t < n → getD after (p * n + t) 0 ≡ getD ys t 0) (old : (j : ℕ) → p * n + n ≤ j → getD after j 0 ≡ getD work j 0)
+    (way : Trail tables vs work i) where
   own : Layer tables (getD vs p (pos 0)) (drop (p + 1) vs) costs ys
   own = rw (is, e) at L
 
   pub step-exact : Exact (rule tables) cap (drop p vs) (at costs)
   step-exact = rw (drop-cons vs p (pos 0) hp, ← add-one p) (own .exact)
 
-  pub step-trail : Trail tables vs (putMid (p * n) (p * n + n - p * n) work ys) p
+  pub step-trail : Trail tables vs after p
   step-trail j t hj lj ht = ⊎-elim same later (eq-or-lt-of-le hj)
     where
       inside : t - 1 < n
       inside = omega arith
 
-      same : p ≡ j
-          → Shows (rule tables) (getD vs j (pos 0)) (drop (j + 1) vs) t
-          (getD (putMid (p * n) (p * n + n - p * n) work ys) (j * length tables + (t - 1)) 0)
-      same q = rw (← q) (rw (place, put-in work ys (p * n) n l room (t - 1) inside) (own .shows t ht))
+      same : p ≡ j → Shows (rule tables) (getD vs j (pos 0)) (drop (j + 1) vs) t (getD after (j * length tables + (t - 1)) 0)
+      same q = rw (← q) (rw (place, new (t - 1) inside) (own .shows t ht))
         where
           place : p * length tables + (t - 1) ≡ p * n + (t - 1)
           place = rw all
 
-      later : p < j
-          → Shows (rule tables) (getD vs j (pos 0)) (drop (j + 1) vs) t
-          (getD (putMid (p * n) (p * n + n - p * n) work ys) (j * length tables + (t - 1)) 0)
+      later : p < j → Shows (rule tables) (getD vs j (pos 0)) (drop (j + 1) vs) t (getD after (j * length tables + (t - 1)) 0)
       later q =
-          rw (put-out work ys (p * n) n l room (j * length tables + (t - 1)) (rw all (omega (arith, suc-mul p n, mul-le-mul-right n q))))
-          (way j t (omega arith) lj ht)
+          rw (old (j * length tables + (t - 1)) (rw all (omega (arith, suc-mul p n, mul-le-mul-right n q)))) (way j t (omega arith) lj ht)
+
+-- ---- one table, without switches
+
+-- its cost, among those of all tables
+abbrev pub alone : ℕ → List ℕ
+alone c = 0 ∷ c ∷ replicate 7 0
+
+pub alone-nine : (c : ℕ) → c ≤ suc cap → Nine (alone c)
+alone-nine c h = (refl, most)
+  where
+    most : (t : ℕ) → t < 9 → at (alone c) t ≤ suc cap
+    most zero l = omega arith
+    most (suc zero) l = h
+    most (suc (suc t)) l = omega (arith, getD-replicate {A = ℕ} 7 t 0 0 (omega arith))
+
+-- the value's structure is the first step
+module _ {tables : List (List Structure)} {tab : List ℕ} (ready : Ready tables tab) (all : length tables ≡ 1) (none : NoSwitch tab 1)
+    (x k a c : ℕ) (vs : List ℤ) (E : Exact (rule tables) cap vs (at (alone a))) (near : IsNearest tab 1 x k)
+    (no : k ≡ 64 → c ≡ suc cap) (some : k < 64 → c ≡ join cap (bitsOf tab 1 k) a) (most : c ≤ suc cap) where
+  its-value : Valued tables (alone a) x 1 k c
+  its-value = valued ready (alone a) x 1 k c (omega arith) (near .0 tables ready) no some
+
+  valued-one : ValuedTo tables (alone a) x (k ∷ []) (alone c) 2
+  valued-one t g h = let e : t ≡ 1 = omega arith in rw e its-value
+
+  pub one-layer : Layer tables (lower 131072 x) vs (alone c) (k ∷ [])
+  one-layer =
+      layer-holds ready 1 x vs (alone a) (k ∷ []) (alone c) (alone c) (k ∷ []) all E valued-one
+      (settled-first tab 1 (alone c) (omega arith) (alone-nine c most) none)
+      (λ t g h. picked-first tab 1 (alone c) (omega arith) (alone-nine c most) none t (getD (k ∷ []) (t - 1) 0) g h
+      (let e : t ≡ 1 = omega arith in rw e (near .1)))
+
+-- the byte of a value in the work space
+module _ (work : List ℕ) (p k : ℕ) (h : p < length work) where
+  pub set-in : (t : ℕ) → t < 1 → getD (set work p k) (p * 1 + t) 0 ≡ getD (k ∷ []) t 0
+  set-in zero l = let e : p * 1 + 0 ≡ p = omega arith in rw e (getD-set-same work p k 0 h)
+  set-in (suc t) l = absurd (omega arith)
+
+  pub set-out : (j : ℕ) → p * 1 + 1 ≤ j → getD (set work p k) j 0 ≡ getD work j 0
+  set-out j l = getD-set-other work p j k 0 (λ e. absurd (omega arith))

@@ -63,6 +63,10 @@ rankIn tab t k = formIn tab t k .word * 2 ^ (32 - formIn tab t k .prefix)
 abbrev pub Within : List ℕ → ℕ → Type 0
 Within tab t = Filled tab × (1 ≤ t) × (t ≤ 8)
 
+-- none of the n tables has a switch
+abbrev pub NoSwitch : List ℕ → ℕ → Type 0
+NoSwitch tab n = (t k : ℕ) → 1 ≤ t → t ≤ n → k < countOf tab t → formIn tab t k .to ≡ 0
+
 -- a structure of table t, or 64 for none
 abbrev pub Place : List ℕ → ℕ → ℕ → Type 0
 Place tab t k = (k ≡ 64) ⊎ (k < countOf tab t)
@@ -82,6 +86,16 @@ leapOf tab costs t k =
 abbrev pub Served : List (List Structure) → ℕ → ℕ → ℕ → ℕ → Type 0
 Served tables x t m k =
     ((k ≡ 64) × NoValue (rule tables) (lower 131072 x) t m) ⊎ Nearest (rule tables) (lower 131072 x) t m k
+
+-- structure k of table t, or 64 for none, is the value's
+abbrev pub IsNearest : List ℕ → ℕ → ℕ → ℕ → Type 0
+IsNearest tab t x k = ((tables : List (List Structure)) → Ready tables tab → Served tables x t (countOf tab t) k) × Place tab t k
+
+-- what is known of the values from -128 to 127: 256 places a table, each with the value's structure, or more than 64
+pub record Known (tab known : List ℕ) : Type 0 where
+  pub room : length known ≡ 2048
+  pub found : (t x : ℕ) → 1 ≤ t → t ≤ 8 → 130944 ≤ x → x < 131200 → getD known ((t - 1) * 256 + (x - 130944)) 0 ≤ 64
+      → IsNearest tab t x (getD known ((t - 1) * 256 + (x - 130944)) 0)
 
 -- k is the value's structure of table t, and c what it costs where the costs behind it are `next`
 abbrev pub Valued : List (List Structure) → List ℕ → ℕ → ℕ → ℕ → ℕ → Type 0

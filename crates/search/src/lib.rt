@@ -14,7 +14,7 @@ ghost use Rattle.tables.specs.Structures.{structureRight};
 ghost use Rattle.compiled.specs.InnerForm.{formOf, Ready};
 ghost use Rattle.paths.specs.InnerPaths.{gives, join as joinOf, Exact};
 ghost use Rattle.shortest.specs.InnerRule.{kindOf, structureOf, rule};
-ghost use Rattle.search.specs.InnerSearch.{FilledBy, cap, Planned, countOf, formIn, bitsOf, rankIn, Within, Place, at, leapOf, Served, ValuedTo, LeastOf, Settled, Smaller, Picked, PickedFrom, Layer, Nine};
+ghost use Rattle.search.specs.InnerSearch.{FilledBy, cap, Planned, countOf, formIn, bitsOf, rankIn, Within, NoSwitch, Place, at, leapOf, Served, IsNearest, Known, ValuedTo, LeastOf, Settled, Smaller, Picked, PickedFrom, Layer, Nine};
 use compiled::Form;
 
 // One more than the bits of 65,535 bytes, where costs stop.
@@ -113,7 +113,7 @@ fn nearer(tab: &[u32], t: usize, k: usize, best: usize) -> usize
 // The structure of table t that serves the value, 131,072 added, with the shortest code, and of those the smallest; 64 for none.
 fn nearest(tab: &[u32], t: usize, v: usize) -> usize
     requires { ⌜ Within (now tab) t ⌝ }
-    ensures { λ r. ⌜ ((tables : List (List Structure)) → Ready tables (now (tab .entry)) → Served tables v t (countOf (now (tab .entry)) t) r) × Place (now (tab .entry)) t r ⌝ }
+    ensures { λ r. ⌜ IsNearest (now (tab .entry)) t v r ⌝ }
 {
     let m = count(tab, t);
     let mut best = 64;
@@ -128,27 +128,64 @@ fn nearest(tab: &[u32], t: usize, v: usize) -> usize
     best
 }
 
-// What structure k of table t costs for the value; 64 is none.
-fn value_cost(tab: &[u32], t: usize, k: usize, next: &[usize; 9]) -> usize
+// Nothing is known yet of the small values' structures.
+fn unknown() -> [u8; 2048]
+    ensures { λ r. ⌜ ((tab : List ℕ) → Known tab r) ⌝ }
+{
+    [255; 2048]
+}
+
+// The same, found once for each table and each value from -128 to 127: 256 places a table, and above 64 where it is not known yet.
+fn near(tab: &[u32], t: usize, v: usize, known: &mut [u8]) -> usize
+    requires { ⌜ Within (now tab) t × Known (now tab) (now known) ⌝ }
+    ensures { λ r. ⌜ IsNearest (now (tab .entry)) t v r × Known (now (tab .entry)) (now (known .exit)) ⌝ }
+{
+    if v < 130944 {
+        return nearest(tab, t, v);
+    }
+    let d = v - 130944;
+    if 256 <= d {
+        return nearest(tab, t, v);
+    }
+    let place = (t - 1) * 256 + d;
+    let found = known[place] as usize;
+    if found <= 64 {
+        return found;
+    }
+    let k = nearest(tab, t, v);
+    known[place] = k as u8;
+    k
+}
+
+// What structure k of table t costs for the value, where what is left costs a; 64 is none.
+fn value_cost(tab: &[u32], t: usize, k: usize, a: usize) -> usize
     requires { ⌜ Within (now tab) t × Place (now tab) t k ⌝ }
-    ensures { λ r. ⌜ (k ≡ 64 → r ≡ suc cap) × (k < 64 → r ≡ joinOf cap (bitsOf (now (tab .entry)) t k) (at (now (next .entry)) t)) × (r ≤ suc cap) ⌝ }
+    ensures { λ r. ⌜ (k ≡ 64 → r ≡ suc cap) × (k < 64 → r ≡ joinOf cap (bitsOf (now (tab .entry)) t k) a) × (r ≤ suc cap) ⌝ }
 {
     if k == 64 {
         return NONE;
     }
-    join(bits_of(tab, t, k), next[t])
+    join(bits_of(tab, t, k), a)
 }
 
 // The value's structure of each of the n tables goes to the marks; what it costs is given back.
-fn values(tab: &[u32], n: usize, v: usize, next: &[usize; 9], marks: &mut [u8]) -> [usize; 9]
-    requires { ⌜ FilledBy (now tab) n × (length (now marks) ≡ n) ⌝ }
-    ensures { λ r. ⌜ ((tables : List (List Structure)) → Ready tables (now (tab .entry)) → ValuedTo tables (now (next .entry)) v (now (marks .exit)) r (n + 1)) × Nine r ⌝ }
+fn values(
+    tab: &[u32],
+    n: usize,
+    v: usize,
+    next: &[usize; 9],
+    known: &mut [u8],
+    marks: &mut [u8],
+) -> [usize; 9]
+    requires { ⌜ FilledBy (now tab) n × Known (now tab) (now known) × (length (now marks) ≡ n) ⌝ }
+    ensures { λ r. ⌜ ((tables : List (List Structure)) → Ready tables (now (tab .entry)) → ValuedTo tables (now (next .entry)) v (now (marks .exit)) r (n + 1))
+        × Nine r × Known (now (tab .entry)) (now (known .exit)) ⌝ }
 {
     let mut cur = [NONE; 9];
     let mut t = 1;
     while t <= n {
-        let k = nearest(tab, t, v);
-        cur[t] = value_cost(tab, t, k, next);
+        let k = near(tab, t, v, known);
+        cur[t] = value_cost(tab, t, k, next[t]);
         marks[t - 1] = k as u8;
         t += 1;
     }
@@ -280,7 +317,7 @@ fn switches(tab: &[u32], t: usize) -> bool
 // Whether any of the n tables has a switch.
 fn has_switch(tab: &[u32], n: usize) -> bool
     requires { ⌜ FilledBy (now tab) n ⌝ }
-    ensures { λ r. ⌜ (r ≡ false → (t k : ℕ) → 1 ≤ t → t ≤ n → k < countOf (now (tab .entry)) t → formIn (now (tab .entry)) t k .to ≡ 0) ⌝ }
+    ensures { λ r. ⌜ (r ≡ false → NoSwitch (now (tab .entry)) n) ⌝ }
 {
     let mut t = 1;
     while t <= n {
@@ -299,19 +336,56 @@ fn layer(
     v: usize,
     any: bool,
     next: &[usize; 9],
+    known: &mut [u8],
     marks: &mut [u8],
 ) -> [usize; 9]
-    requires { ⌜ FilledBy (now tab) n × (length (now marks) ≡ n) ⌝ }
-    requires { ⌜ (any ≡ false → (t k : ℕ) → 1 ≤ t → t ≤ n → k < countOf (now tab) t → formIn (now tab) t k .to ≡ 0) ⌝ }
-    ensures { λ r. ⌜ ((tables : List (List Structure)) (vs : List ℤ) → Ready tables (now (tab .entry)) → length tables ≡ n → Exact (rule tables) cap vs (at (now (next .entry))) → Layer tables (lower 131072 v) vs r (now (marks .exit))) × Nine r ⌝ }
+    requires { ⌜ FilledBy (now tab) n × Known (now tab) (now known) × (length (now marks) ≡ n) × (any ≡ false → NoSwitch (now tab) n) ⌝ }
+    ensures { λ r. ⌜ ((tables : List (List Structure)) (vs : List ℤ) → Ready tables (now (tab .entry)) → length tables ≡ n → Exact (rule tables) cap vs (at (now (next .entry))) → Layer tables (lower 131072 v) vs r (now (marks .exit)))
+        × Nine r × Known (now (tab .entry)) (now (known .exit)) ⌝ }
 {
-    let first = values(tab, n, v, next, marks);
+    let first = values(tab, n, v, next, known, marks);
     if any {
         let cur = settle(tab, n, first);
         mark(tab, n, &first, &cur, marks);
         return cur;
     }
     first
+}
+
+// The search, a layer for each value.
+fn all_layers(tab: &[u32], n: usize, any: bool, xs: &[i16], order: usize, work: &mut [u8]) -> usize
+    requires { ⌜ FilledBy (now tab) n × (any ≡ false → NoSwitch (now tab) n) × (length (now xs) * n ≤ length (now work)) ⌝ }
+    ensures { λ r. ⌜ ((tables : List (List Structure)) → Ready tables (now (tab .entry)) → length tables ≡ n → Planned tables (differences order (now (xs .entry))) (now (work .exit)) r) × (r ≤ 524282) ⌝ }
+{
+    let mut known = unknown();
+    let mut next = [0usize; 9];
+    let mut i = xs.len();
+    while 0 < i {
+        i -= 1;
+        let v = samples::value_at(xs, order, i);
+        let from = i * n;
+        let to = from + n;
+        next = layer(tab, n, v, any, &next, &mut known, &mut work[from..to]);
+    }
+    next[1]
+}
+
+// The search where there is one table, and no switch: each value's structure is its first step, and their bits add up.
+fn one_table(tab: &[u32], xs: &[i16], order: usize, work: &mut [u8]) -> usize
+    requires { ⌜ FilledBy (now tab) 1 × NoSwitch (now tab) 1 × (length (now xs) ≤ length (now work)) ⌝ }
+    ensures { λ r. ⌜ ((tables : List (List Structure)) → Ready tables (now (tab .entry)) → length tables ≡ 1 → Planned tables (differences order (now (xs .entry))) (now (work .exit)) r) × (r ≤ 524282) ⌝ }
+{
+    let mut known = unknown();
+    let mut cost = 0usize;
+    let mut i = xs.len();
+    while 0 < i {
+        i -= 1;
+        let v = samples::value_at(xs, order, i);
+        let k = near(tab, 1, v, &mut known);
+        cost = value_cost(tab, 1, k, cost);
+        work[i] = k as u8;
+    }
+    cost
 }
 
 // The bits of the shortest stream for the samples' differences: 524,281 stands for that many and more, 524,282 for no stream. The first
@@ -321,14 +395,11 @@ pub fn plan(tab: &[u32], n: usize, xs: &[i16], order: usize, work: &mut [u8]) ->
     ensures { λ r. ⌜ ((tables : List (List Structure)) → Ready tables (now (tab .entry)) → length tables ≡ n → Planned tables (differences order (now (xs .entry))) (now (work .exit)) r) × (length (now (work .exit)) ≡ length (now (work .entry))) × (r ≤ 524282) ⌝ }
 {
     let any = has_switch(tab, n);
-    let mut next = [0usize; 9];
-    let mut i = xs.len();
-    while 0 < i {
-        i -= 1;
-        let v = samples::value_at(xs, order, i);
-        let from = i * n;
-        let to = from + n;
-        next = layer(tab, n, v, any, &next, &mut work[from..to]);
+    if any {
+        return all_layers(tab, n, any, xs, order, work);
     }
-    next[1]
+    if n == 1 {
+        return one_table(tab, xs, order, work);
+    }
+    all_layers(tab, n, any, xs, order, work)
 }

@@ -50,14 +50,13 @@ fine c =
     let l = c .before .before .before .loop in
     next-fine (d .pre .0 .0) (l .inv) (d .pre .1) (d .pre .0 .2) (omega arith) (c .form-at .result) (c .form-at .ensures)
 
-most : (c : tie.After-value-at Inv-loop μ-loop) → let f = c .before .form-at .result in
-    f .prefix + f .remainder ≤ c .before .before .before .before .loop .left
+most : (c : tie.After-form-at Inv-loop μ-loop) → let f = c .form-at .result in
+    f .prefix + f .remainder ≤ c .before .before .before .loop .left
 most c =
-    let d = c .before .before .before .before .before .before .before .before .before in
-    let l = c .before .before .before .before .loop in
-    let f = c .before .form-at in
-    next-most (d .pre .0 .0) (l .inv) (d .pre .1) (d .pre .0 .2) (omega arith) (f .result) (f .ensures) (c .value-at .result)
-    (c .value-at .ensures .0)
+    let d = c .before .before .before .before .before .before .before .before in
+    let l = c .before .before .before .loop in
+    let f = c .form-at in
+    next-most (d .pre .0 .0) (l .inv) (d .pre .1) (d .pre .0 .2) (omega arith) (f .result) (f .ensures)
 
 new-requires : tie.Need-new-requires Inv-loop μ-loop
 new-requires c κs = search needs
@@ -94,61 +93,50 @@ form-at-requires c κs =
     let l = c .before .before .loop in
     (r .room, omega (arith, table (c .before)), next-place (d .pre .0 .0) (l .inv) (d .pre .1) (d .pre .0 .2) (omega arith))
 
-value-at-requires : tie.Need-value-at-requires Inv-loop μ-loop
-value-at-requires c κs = sample (c .before .before)
-
 put-code-requires : tie.Need-put-code-requires Inv-loop μ-loop
 put-code-requires c κs =
-    let d = c .before .before .before .before .before .before .before .before .before .before in
-    let l = c .before .before .before .before .before .loop in
-    let f = fine (c .before .before) in
-    let k = next-sink (d .pre .0 .0) (l .inv) in
-    ((f .most, f .rest, f .word), (k .0, k .1, omega (arith, k .2, most (c .before), d .pre .0 .3, l .inv .same)))
+    let d = c .before .before .before .before .before .before .before .before .before in
+    let l = c .before .before .before .before .loop in
+    let f = fine (c .before) in
+    let k = next-sink (d .pre .0 .0) (l .inv) in (
+      (f .most, f .rest, f .word, sample (c .before .before .before)),
+      (k .0, k .1, omega (arith, k .2, most (c .before), d .pre .0 .3, l .inv .same)),
+    )
 
 add-left : tie.Need-add-left Inv-loop μ-loop
-add-left c = let f = fine (c .before .before .before .before .before .before) in omega (arith, f .most, f .rest)
+add-left c = let f = fine (c .before .before .before .before .before) in omega (arith, f .most, f .rest)
 
 sub-left : tie.Need-sub-left Inv-loop μ-loop
 sub-left c = most (c .before .before .before .before .before)
 
 add-i : tie.Need-add-i Inv-loop μ-loop
 add-i c =
-    let start = c .before .before .before .before .before .before .before .before .before .before in
+    let start = c .before .before .before .before .before .before .before .before .before in
     omega (arith, start .before .before .before .before .before .before .good, sample start)
 
 loop-less : tie.Need-loop-less Inv-loop μ-loop
-loop-less c =
-    let v = c .before .before .before .before .before .before .before in
-    let f = fine (v .before) in
-    omega (arith, f .some, most v)
+loop-less c = let f = c .before .before .before .before .before .before .before in omega (arith, fine f .some, most f)
 
 loop-again : tie.Need-loop-again Inv-loop μ-loop
 loop-again c =
-    let v = c .before .before .before .before .before .before .before in
-    let f = v .before .form-at in
-    let start = v .before .before .before in
+    let f = c .before .before .before .before .before .before .before .form-at in
+    let start = c .before .before .before .before .before .before .before .before .before in
     let d = start .before .before .before .before .before .before in
     let q = c .before .before .before .before .before .put-code in
     going-value (d .pre .0 .0) (start .before .loop .inv) (d .pre .1) (d .pre .0 .2) (more start) (f .result) (f .ensures)
-    (v .value-at .result) (v .value-at .ensures .0) (q .last .1 .0) (q .result) (q .ensures .0) (q .ensures .1)
-    (q .ensures .2) (c .if1 .taken)
+    (q .last .1 .0) (q .result) (q .ensures .0) (q .ensures .1) (q .ensures .2) (c .if1 .taken)
 
 loop-less-2 : tie.Need-loop-less-2 Inv-loop μ-loop
-loop-less-2 c =
-    let v = c .before .before .before .before .before .before .before in
-    let f = fine (v .before) in
-    omega (arith, f .some, most v)
+loop-less-2 c = let f = c .before .before .before .before .before .before .before in omega (arith, fine f .some, most f)
 
 loop-again-2 : tie.Need-loop-again-2 Inv-loop μ-loop
 loop-again-2 c =
-    let v = c .before .before .before .before .before .before .before in
-    let f = v .before .form-at in
-    let start = v .before .before .before in
+    let f = c .before .before .before .before .before .before .before .form-at in
+    let start = c .before .before .before .before .before .before .before .before .before in
     let d = start .before .before .before .before .before .before in
     let q = c .before .before .before .before .before .put-code in
     going-switch (d .pre .0 .0) (start .before .loop .inv) (d .pre .1) (d .pre .0 .2) (more start) (f .result) (f .ensures)
-    (v .value-at .result) (v .value-at .ensures .0) (q .last .1 .0) (q .result) (q .ensures .0) (q .ensures .1)
-    (q .ensures .2) (c .if1 .left)
+    (q .last .1 .0) (q .result) (q .ensures .0) (q .ensures .1) (q .ensures .2) (c .if1 .left)
 
 end-requires : tie.Need-end-requires Inv-loop μ-loop
 end-requires c κs =
@@ -180,7 +168,6 @@ walk-spec =
     cast-k
     sub-form-at
     form-at-requires
-    value-at-requires
     put-code-requires
     add-left
     sub-left

@@ -18,42 +18,49 @@ settle-requires c κs = search needs
 
 mark-requires : tie.Need-mark-requires
 mark-requires c κs =
-    let p = c .before .before .before .before .before .before .before .before .before .before .before .pre .0 in
-    let a = c .before .before .before .before .before .before .before .before .before .before .before .args in
-    let w = c .before .before .before .before .before .before .before .values in (
+    let p = c .before .before .before .before .before .before .before .before .before .before .before .before .before .before .before .pre in
+    let a = c .before .before .before .before .before .before .before .before .before .before .before .before .before .before .before .args in
+    let w = c .before .before .before .before .before .before .before .before .before .values in (
       p .0,
-      w .kept .1 .1 .1 .1 .0 ∙ p .1,
+      w .kept .1 .1 .1 .1 .1 .0 ∙ p .2,
       λ t g h.
-          place-valued (p .0 .1) (a .next .now) (a .v) t (getD (w .last .1 .1 .1 .1 .0) (t - 1) 0) (at (w .result) t)
+          place-valued (p .0 .1) (a .next .now) (a .v) t (getD (w .last .1 .1 .1 .1 .1 .0) (t - 1) 0) (at (w .result) t)
           (omega (arith, p .0 .1 .most, p .0 .2)) (w .ensures .0 (p .0 .0) (p .0 .1) t g (omega arith)),
     )
 
 same-length : tie.Need-same-length
 same-length c = search needs
 
-returns : tie.Need-returns
-returns c =
-    let a = c .before .before .before .before .before .before .before .before .before .before .before .before .before .before .args in
-    let w = c .before .before .before .before .before .before .before .before .before .before .values in
-    let s = c .before .before .before .before .before .before .settle in
-    let m = c .before .before .mark in (
-      λ tables vs ready e x.
-          layer-holds ready (a .n) (a .v) vs (a .next .now) (w .last .1 .1 .1 .1 .0) (w .result) (s .result) (m .last .1 .1 .1 .1 .0) e x
-          (w .ensures .0 tables ready) (s .ensures) (m .ensures),
-      (s .ensures .nine, λ t h. omega (arith, s .ensures .less t h, w .ensures .1 .1 t h)),
-    )
-
 same-length-2 : tie.Need-same-length-2
 same-length-2 c = search needs
 
+returns : tie.Need-returns
+returns c =
+    let a = c .before .before .before .before .before .before .before .before .before .before .before .before .before .before .before .before .before .before .args in
+    let w = c .before .before .before .before .before .before .before .before .before .before .before .before .values in
+    let s = c .before .before .before .before .before .before .settle in
+    let m = c .before .before .mark in (
+      λ tables vs ready e x.
+          layer-holds ready (a .n) (a .v) vs (a .next .now) (w .last .1 .1 .1 .1 .1 .0) (w .result) (s .result) (m .last .1 .1 .1 .1 .0) e x
+          (w .ensures .0 tables ready) (s .ensures) (m .ensures),
+      (s .ensures .nine, λ t h. omega (arith, s .ensures .less t h, w .ensures .1 .1 t h)),
+      w .ensures .2,
+    )
+
+same-length-3 : tie.Need-same-length-3
+same-length-3 c = search needs
+
+same-length-4 : tie.Need-same-length-4
+same-length-4 c = search needs
+
 returns-2 : tie.Need-returns-2
 returns-2 c =
-    let p = c .before .before .before .before .before .before .before .pre in
-    let a = c .before .before .before .before .before .before .before .args in
-    let w = c .before .before .before .values in
-    let marks = w .last .1 .1 .1 .1 .0 in
-    let few : a .n ≤ 8 = omega (arith, p .0 .0 .1 .most, p .0 .0 .2) in
-    let none = p .1 (c .if1 .left) in (
+    let p = c .before .before .before .before .before .before .before .before .before .before .before .pre in
+    let a = c .before .before .before .before .before .before .before .before .before .before .before .args in
+    let w = c .before .before .before .before .before .values in
+    let marks = w .last .1 .1 .1 .1 .1 .0 in
+    let few : a .n ≤ 8 = omega (arith, p .0 .1 .most, p .0 .2) in
+    let none = p .3 (c .if1 .left) in (
       λ tables vs ready e x.
           layer-holds ready (a .n) (a .v) vs (a .next .now) marks (w .result) (w .result) marks e x (w .ensures .0 tables ready)
           (settled-first (a .tab .now) (a .n) (w .result) few (w .ensures .1) none)
@@ -62,6 +69,7 @@ returns-2 c =
           (place-valued ready (a .next .now) (a .v) t (getD marks (t - 1) 0) (at (w .result) t) (omega arith)
           (w .ensures .0 tables ready t g (omega arith)))),
       w .ensures .1,
+      w .ensures .2,
     )
 
 pub layer-spec : {M : Type 1} → statement M
@@ -72,6 +80,8 @@ layer-spec =
     settle-requires
     mark-requires
     same-length
-    returns
     same-length-2
+    returns
+    same-length-3
+    same-length-4
     returns-2)

@@ -6,38 +6,47 @@ use native.Mathlib.Omega.{arith}
 use lib.ListN.{length, length-set, getD-replicate}
 use Rattle.tables.specs.declared.Structure.{Structure}
 use Rattle.compiled.specs.InnerForm.{Ready}
-use Rattle.search.specs.InnerSearch.{cap, at, ValuedTo}
+use Rattle.search.specs.InnerSearch.{cap, at, Known, ValuedTo}
 use Rattle.search.proofs.Laws.{valued, valued-more, place-most, set-most}
 use Rattle.search.proofs.values.Statement.{statement}
 use Rattle.search.proofs.values.Tie as tie
 
 abbrev Inv-loop : tie.InvT-loop
-Inv-loop tab n v next marks₀ cur₀ t₀ marks cur t =
+Inv-loop tab n v next known₀ marks₀ cur₀ t₀ known marks cur t =
     (1 ≤ t) × (t ≤ n + 1) × (n ≤ 8) × (length marks ≡ n) × (length cur ≡ 9) × ((u : ℕ) → u < 9 → at cur u ≤ suc cap)
-    × ((tables : List (List Structure)) → Ready tables tab → ValuedTo tables next v marks cur t)
+    × ((tables : List (List Structure)) → Ready tables tab → ValuedTo tables next v marks cur t) × Known tab known
 
 abbrev μ-loop : tie.MeasureT-loop
-μ-loop tab n v next marks₀ cur₀ t₀ marks cur t = n + 1 - t
+μ-loop tab n v next known₀ marks₀ cur₀ t₀ known marks cur t = n + 1 - t
 
 loop-holds : tie.Need-loop-holds Inv-loop μ-loop
 loop-holds c =
-    let p = c .before .before .pre in (
+    let p = c .before .before .before .pre in (
       omega arith,
       omega arith,
       omega (arith, p .0 .1 .most, p .0 .2),
-      p .1,
+      p .2,
       refl,
       λ u h. omega (arith, getD-replicate {A = ℕ} 9 u 524282 0 h),
       λ tables ready u a b. absurd (omega arith),
+      p .1,
     )
 
-nearest-requires : tie.Need-nearest-requires Inv-loop μ-loop
-nearest-requires c κs = let p = c .before .before .before .before .pre in ((p .0 .0, p .0 .1), omega arith, omega arith)
+near-requires : tie.Need-near-requires Inv-loop μ-loop
+near-requires c κs =
+    let p = c .before .before .before .before .before .before .pre in
+    (((p .0 .0, p .0 .1), omega arith, omega arith), c .before .before .loop .inv .7)
+
+mul-value-cost : tie.Need-mul-value-cost Inv-loop μ-loop
+mul-value-cost c = omega arith
+
+element-copy-out-value-cost : tie.Need-element-copy-out-value-cost Inv-loop μ-loop
+element-copy-out-value-cost c = omega arith
 
 value-cost-requires : tie.Need-value-cost-requires Inv-loop μ-loop
 value-cost-requires c κs =
-    let p = c .before .before .before .before .before .pre in
-    (((p .0 .0, p .0 .1), omega arith, omega arith), c .nearest .ensures .1)
+    let p = c .before .before .before .before .before .before .before .before .before .before .pre in
+    (((p .0 .0, p .0 .1), omega arith, omega arith), c .before .before .before .near .ensures .0 .1)
 
 mul-cur : tie.Need-mul-cur Inv-loop μ-loop
 mul-cur c = omega arith
@@ -47,9 +56,9 @@ array-write-cur c = omega arith
 
 cast-marks : tie.Need-cast-marks Inv-loop μ-loop
 cast-marks c =
-    let p = c .before .before .before .before .before .before .pre in
-    let k = c .before .nearest in
-    omega (arith, place-most (p .0 .1) (c .before .before .before .loop .t) (k .result) (omega arith) (k .ensures .1))
+    let p = c .before .before .before .before .before .before .before .before .before .before .before .pre in
+    let k = c .before .before .before .before .near in
+    omega (arith, place-most (p .0 .1) (c .before .before .before .before .before .before .before .loop .t) (k .result) (omega arith) (k .ensures .0 .1))
 
 sub-marks : tie.Need-sub-marks Inv-loop μ-loop
 sub-marks c = omega arith
@@ -65,9 +74,9 @@ loop-less c = omega arith
 
 loop-again : tie.Need-loop-again Inv-loop μ-loop
 loop-again c =
-    let a = c .before .before .before .before .before .before .args in
-    let l = c .before .before .before .loop in
-    let k = c .before .nearest in
+    let a = c .before .before .before .before .before .before .before .before .before .before .before .args in
+    let l = c .before .before .before .before .before .before .before .loop in
+    let k = c .before .before .before .before .near in
     let r = c .value-cost in (
       omega arith,
       omega arith,
@@ -78,15 +87,19 @@ loop-again c =
       λ tables ready.
           valued-more tables (a .next .now) (l .marks) (l .cur) (a .v) (l .t) (k .result) (r .result) (omega arith)
           (omega (arith, l .inv .3)) (omega (arith, l .inv .4)) (l .inv .6 tables ready)
-          (valued ready (a .next .now) (a .v) (l .t) (k .result) (r .result) (omega arith) (k .ensures .0 tables ready) (r .ensures .0)
-          (r .ensures .1)),
+          (valued ready (a .next .now) (a .v) (l .t) (k .result) (r .result) (omega arith) (k .ensures .0 .0 tables ready)
+          (r .ensures .0) (r .ensures .1)),
+      k .ensures .1,
     )
 
 same-length : tie.Need-same-length Inv-loop μ-loop
-same-length c = omega (arith, c .before .loop .inv .3, c .before .before .before .before .pre .1)
+same-length c = omega (arith, c .before .loop .inv .7 .room, c .before .before .before .before .before .pre .1 .room)
+
+same-length-2 : tie.Need-same-length-2 Inv-loop μ-loop
+same-length-2 c = omega (arith, c .before .loop .inv .3, c .before .before .before .before .before .pre .2)
 
 returns : tie.Need-returns Inv-loop μ-loop
-returns c = let i = c .before .loop .inv in (λ tables ready u a b. i .6 tables ready u a (omega arith), (i .4, i .5))
+returns c = let i = c .before .loop .inv in (λ tables ready u a b. i .6 tables ready u a (omega arith), (i .4, i .5), i .7)
 
 pub values-spec : {M : Type 1} → statement M
 values-spec =
@@ -95,7 +108,9 @@ values-spec =
     Inv-loop
     μ-loop
     loop-holds
-    nearest-requires
+    near-requires
+    mul-value-cost
+    element-copy-out-value-cost
     value-cost-requires
     mul-cur
     array-write-cur
@@ -106,4 +121,5 @@ values-spec =
     loop-less
     loop-again
     same-length
+    same-length-2
     returns)
