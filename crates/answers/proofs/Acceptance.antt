@@ -32,7 +32,7 @@ use Rattle.encode.specs.declared.Coded.{Coded}
 use Rattle.encode.specs.Encoding as E
 use Rattle.encode.specs.Encoding.{tablesGiven, givenRight, foundRefusal, codedAs, outAs, Encoded}
 use Rattle.trip.proofs.Traces.{stream-back}
-use Rattle.trip.proofs.Tables.{given-right}
+use Rattle.trip.proofs.Compose.{given-right}
 use Rattle.trip.proofs.Written.{written-back}
 use Rattle.answers.specs.Demands.{AllKept, rowsOpened, rowsLead, Demand2}
 use Rattle.answers.proofs.Laws.{none-broken}

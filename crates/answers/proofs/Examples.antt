@@ -23,7 +23,7 @@ use Rattle.shortest.proofs.Existence.{readsIt}
 use Rattle.shortest.proofs.Certificate.{takes, outside-none}
 use Rattle.encode.specs.declared.Coded.{Coded}
 use Rattle.encode.specs.Encoding.{tablesGiven, givenRight, foundRefusal, Encoded, refused, searched}
-use Rattle.trip.proofs.Tables.{given-right}
+use Rattle.trip.proofs.Compose.{given-right}
 use Rattle.fields.specs.Identifier.{same}
 use Rattle.answers.proofs.Fewest.{asked}
 use Rattle.answers.specs.Examples.{twoTables, namedDefault, readMany, valuesP3, valuesP5, samplesP9, samplesP1, field007, field7, id007, id7, Examples}

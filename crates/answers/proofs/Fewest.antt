@@ -26,9 +26,9 @@ use Rattle.shortest.proofs.Laws.{bits-small, small-bits}
 use Rattle.shortest.proofs.Cut.{next-cut}
 use Rattle.encode.specs.declared.Coded.{Coded}
 use Rattle.encode.specs.Encoding.{tablesGiven, askedRight, givenRight, workRight, askedRefusal, Found, foundRefusal, codedAs, outAs, Encoded, refused, searched}
-use Rattle.rules.proofs.Laws.{kept-first}
+use Rattle.wire.proofs.Laws.{kept-first, unlike}
 use Rattle.trip.proofs.Traces.{rebuilt-from}
-use Rattle.trip.proofs.Tables.{given-right}
+use Rattle.trip.proofs.Compose.{given-right}
 use Rattle.answers.specs.Demands.{StreamFor, FewestBits, Encodes, long, short, coded}
 use Rattle.answers.specs.Demands as D
 
@@ -51,8 +51,8 @@ behind-one y x xs t h = go (fits16 y) t h
   where
     go : (b : Bool) (t : Trace) → cond b (behind y t) (fault 13) ≡ rebuilt (x ∷ xs) → Behind x y xs t
     go true (rebuilt ys) e = record { sample = cc; later = let q : ys ≡ xs = cc in ap rebuilt q }
-    go true (fault n) e = absurd (let z : _≡_ {A = ℕ} 0 1 = cc in omega arith)
-    go false t e = absurd (let z : _≡_ {A = ℕ} 0 1 = cc in omega arith)
+    go true (fault n) e = unlike cc
+    go false t e = unlike cc
 
 module _ (n : ℕ) (tables : List (List Structure)) (right : every (tableRight n) tables ≡ true) (order : ℕ) where
   begins : (xs : List ℤ) (place : ℕ) (last other : ℤ) (t : ℕ) (bs : List ℕ) → Small bs
@@ -67,7 +67,7 @@ module _ (n : ℕ) (tables : List (List Structure)) (right : every (tableRight n
           → ((next : ℕ) (rest : List ℕ) → Small rest → rebuildFrom tables order (length xs) (place + 1) x last next rest ≡ rebuilt xs
           → Begins tables next rest (storedFrom order (place + 1) x last xs))
           → Begins tables t bs (storedOf order place x last other ∷ storedFrom order (place + 1) x last xs)
-      go stuck e g later = absurd (let z : _≡_ {A = ℕ} 0 1 = cc in omega arith)
+      go stuck e g later = unlike cc
       go (gave v next rest) e g later =
           let y = sampleOf order place v last other in
           let b = behind-one y x xs (rebuildFrom tables order (length xs) (place + 1) y last next rest) g in

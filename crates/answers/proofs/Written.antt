@@ -12,6 +12,7 @@ use borrow.Author.Tests.{leb-true, leb-false}
 use lib.IntN.{ℤ}
 use lib.ListN.{length, getD}
 use Rattle.wire.specs.Rules.{unless}
+use Rattle.wire.proofs.Laws.{unlike}
 use Rattle.samples.specs.Differences.{differences}
 use Rattle.packing.specs.Packing.{bytesFor, packed}
 use Rattle.packing.proofs.Laws.{length-packed}
@@ -21,8 +22,7 @@ use Rattle.compose.specs.declared.Written.{Written}
 use Rattle.compose.specs.Writing as C
 use Rattle.compose.specs.Writing.{Job, cut, FoundAll, done, lead, behind, streamsOf, allShort, Wrote}
 use Rattle.trip.specs.GivenBack.{JobBytes, samplesOf}
-use Rattle.trip.proofs.Compose.{length-cut, cut-fits}
-use Rattle.trip.proofs.Tables.{given-right}
+use Rattle.trip.proofs.Compose.{given-right, length-cut, cut-fits}
 use Rattle.trip.proofs.Written.{job-kept}
 use Rattle.answers.specs.Demands as D
 use Rattle.answers.specs.Demands.{FewestAll, recordWith, Writes}
@@ -46,13 +46,13 @@ record AllFound (s2 : List ℕ) (order : ℕ) (xss : List (List ℤ)) (packedStr
 missing : (s2 : List ℕ) (order : ℕ) {xss : List (List ℤ)} {founds : List (Option (List ℕ))} → FoundAll s2 order xss founds
     → streamsOf founds ≡ none → Missing s2 order xss
 unfolding streamsOf
-missing s2 order done h = absurd (let z : _≡_ {A = ℕ} 0 1 = cc in omega arith)
+missing s2 order done h = unlike cc
 missing s2 order (lead {found = none} f all) h = record { place = 0; there = omega arith; nothing = f }
 missing s2 order (lead {xs = xs} {xss = xss} {found = some bs} {founds = founds} f all) h = go (streamsOf founds) h (missing s2 order all)
   where
     go : (o : Option (List (List ℕ))) → behind bs o ≡ none → (o ≡ none → Missing s2 order xss) → Missing s2 order (xs ∷ xss)
     go none e later = let m = later refl in record { place = suc (m .place); there = omega (arith, m .there); nothing = m .nothing }
-    go (some streams) e later = absurd (let z : _≡_ {A = ℕ} 0 1 = cc in omega arith)
+    go (some streams) e later = unlike cc
 
 all-found : (s2 : List ℕ) (order : ℕ) {xss : List (List ℤ)} {founds : List (Option (List ℕ))} (packedStreams : List (List ℕ))
     → FoundAll s2 order xss founds → streamsOf founds ≡ some packedStreams → AllFound s2 order xss packedStreams
@@ -60,7 +60,7 @@ unfolding streamsOf
 all-found s2 order ps done h =
     let e : ps ≡ [] = cc in
     record { streams = []; bytes = e; many = refl; shortest = λ k l. absurd (omega arith) }
-all-found s2 order ps (lead {found = none} f all) h = absurd (let z : _≡_ {A = ℕ} 0 1 = cc in omega arith)
+all-found s2 order ps (lead {found = none} f all) h = unlike cc
 all-found s2 order ps (lead {xs = xs} {xss = xss} {found = some bs} {founds = founds} f all) h =
     go (streamsOf founds) h (λ qs. all-found s2 order qs all)
   where
@@ -73,7 +73,7 @@ all-found s2 order ps (lead {xs = xs} {xss = xss} {found = some bs} {founds = fo
 
     go : (o : Option (List (List ℕ))) → behind bs o ≡ some ps → ((qs : List (List ℕ)) → o ≡ some qs → AllFound s2 order xss qs)
         → AllFound s2 order (xs ∷ xss) ps
-    go none e later = absurd (let z : _≡_ {A = ℕ} 0 1 = cc in omega arith)
+    go none e later = unlike cc
     go (some qs) e later =
         let m = later qs refl in
         let q : ps ≡ packed bs ∷ qs = cc in
@@ -100,7 +100,7 @@ short-each (bs ∷ streams) h (suc k) l =
 long-one : (streams : List (List ℕ)) → allShort (map packed streams) ≡ false
     → (k : ℕ) × (k < length streams) × (65535 < bytesFor (length (getD streams k [])))
 unfolding allShort
-long-one [] h = absurd (let z : _≡_ {A = ℕ} 0 1 = cc in omega arith)
+long-one [] h = unlike cc
 long-one (bs ∷ streams) h = go (leb (length (packed bs)) 65535) refl h (long-one streams)
   where
     go : (b : Bool) → leb (length (packed bs)) 65535 ≡ b → b && allShort (map packed streams) ≡ false

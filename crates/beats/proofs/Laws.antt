@@ -1,7 +1,7 @@
 -- Zones and the samples that they hold, and the beat added to samples. Assumes nothing.
 use Prim.Native.Nat.{ℕ, zero, suc, _+_, _-_, _*_, _≤_, _<_}
 use mathlib.Core.Path.{_≡_, refl, ap, _∙_}
-use mathlib.Core.Bool.{Bool, true, false, _&&_, cond, and-false, and-eq-true-iff}
+use mathlib.Core.Bool.{Bool, true, false, cond, and-false, and-eq-true-iff}
 use mathlib.Core.List.{List, [], _∷_}
 use native.Mathlib.Numerals.{add-one}
 use native.Mathlib.Omega.{arith}
@@ -10,8 +10,7 @@ use lib.Dec.{leb, ltb, eqb}
 use lib.IntN.{ℤ, pos, _+ℤ_}
 use lib.ListN.{length, getD, drop, drop-of-length-le}
 use lib.Seq.{drop-cons}
-use Rattle.wire.specs.Rules.{allIn}
-use Rattle.wire.proofs.Laws.{all-at}
+use Rattle.wire.proofs.Laws.{all-at, unlike}
 use Rattle.entries.specs.Beat.{fiducialOf, zoneCount, zoneType, zoneBegin, zoneFiducial, zoneEnd, lastBefore, zoneRight, section4Right}
 use Rattle.samples.specs.Trace.{Trace, rebuilt, fault, fits16, behind, afterSample}
 use Rattle.beats.specs.Sums.{inZone, beatPlaceFrom, beatPlace, beatSample, addBeat}
@@ -26,17 +25,12 @@ pub record RightBeat (samples : ℕ) (s : List ℕ) : Type 0 where
 pub beat-right : (samples : ℕ) (s : List ℕ) → section4Right samples s ≡ true → RightBeat samples s
 unfolding section4Right
 beat-right samples s h =
-    let zones = allIn 0 (zoneCount s) (zoneRight samples s) in
-    let a5 = leb (22 + 14 * zoneCount s) (length s) && zones in
-    let a4 = leb (zoneCount s) 1024 && a5 in
-    let a3 = leb (fiducialOf s) samples && a4 in
-    let a2 = leb 1 (fiducialOf s) && a3 in
-    let p1 = and-eq-true-iff (leb 1 samples) (leb samples 65536 && a2) .0 h in
-    let p2 = and-eq-true-iff (leb samples 65536) a2 .0 (p1 .1) in
-    let p3 = and-eq-true-iff (leb 1 (fiducialOf s)) a3 .0 (p2 .1) in
-    let p4 = and-eq-true-iff (leb (fiducialOf s) samples) a4 .0 (p3 .1) in
-    let p5 = and-eq-true-iff (leb (zoneCount s) 1024) a5 .0 (p4 .1) in
-    let p6 = and-eq-true-iff (leb (22 + 14 * zoneCount s) (length s)) zones .0 (p5 .1) in
+    let p1 = and-eq-true-iff (leb 1 samples) _ .0 h in
+    let p2 = and-eq-true-iff (leb samples 65536) _ .0 (p1 .1) in
+    let p3 = and-eq-true-iff (leb 1 (fiducialOf s)) _ .0 (p2 .1) in
+    let p4 = and-eq-true-iff (leb (fiducialOf s) samples) _ .0 (p3 .1) in
+    let p5 = and-eq-true-iff (leb (zoneCount s) 1024) _ .0 (p4 .1) in
+    let p6 = and-eq-true-iff (leb (22 + 14 * zoneCount s) (length s)) _ .0 (p5 .1) in
     record {
       few = leb-true (zoneCount s) 1024 (p5 .0);
       right = λ k g. all-at (zoneRight samples s) 0 (zoneCount s) (p6 .1) k (omega arith) g;
@@ -55,13 +49,10 @@ unfolding zoneRight
 zone-right samples s k h z =
     let begin = zoneBegin s k in
     let end = zoneEnd s k in
-    let least = leb (zoneFiducial s k + 1) (begin + fiducialOf s) in
-    let most = leb (end + fiducialOf s) (zoneFiducial s k + samples) in
-    let a3 = ltb (lastBefore s k) begin && (least && most) in
-    let p1 = and-eq-true-iff (leb 1 begin) (leb begin end && a3) .0 (rw (eq-eqb (zoneType s k) 0 z) at h) in
-    let p2 = and-eq-true-iff (leb begin end) a3 .0 (p1 .1) in
-    let p3 = and-eq-true-iff (ltb (lastBefore s k) begin) (least && most) .0 (p2 .1) in
-    let p4 = and-eq-true-iff least most .0 (p3 .1) in
+    let p1 = and-eq-true-iff (leb 1 begin) _ .0 (rw (eq-eqb (zoneType s k) 0 z) at h) in
+    let p2 = and-eq-true-iff (leb begin end) _ .0 (p1 .1) in
+    let p3 = and-eq-true-iff (ltb (lastBefore s k) begin) _ .0 (p2 .1) in
+    let p4 = and-eq-true-iff (leb (zoneFiducial s k + 1) (begin + fiducialOf s)) _ .0 (p3 .1) in
     record {
       ordered = leb-true begin end (p2 .0);
       later = ltb-true (lastBefore s k) begin (p3 .0);
@@ -171,5 +162,5 @@ added-length s beat n (x ∷ xs) ys e =
     go : (z : ℤ) (f : Bool) (t : Trace) → ((zs : List ℤ) → t ≡ rebuilt zs → length zs ≡ length xs)
         → cond f (behind z t) (fault 13) ≡ rebuilt ys → length ys ≡ length (x ∷ xs)
     go z true (rebuilt zs) rest q = let p : ys ≡ z ∷ zs = cc in ap length p ∙ ap suc (rest zs refl)
-    go z true (fault number) rest q = let p : _≡_ {A = ℕ} 0 1 = cc in absurd (omega arith)
-    go z false t rest q = let p : _≡_ {A = ℕ} 0 1 = cc in absurd (omega arith)
+    go z true (fault number) rest q = unlike cc
+    go z false t rest q = unlike cc

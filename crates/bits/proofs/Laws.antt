@@ -43,7 +43,7 @@ abbrev pub Small : List ℕ → Type 0
 Small l = (i : ℕ) → getD l i 0 < 2
 
 -- bits behind bits are 0 or 1
-small-append : (k l : List ℕ) → Small k → Small l → Small (k ++ l)
+pub small-append : (k l : List ℕ) → Small k → Small l → Small (k ++ l)
 small-append [] l hk hl i = hl i
 small-append (b ∷ k) l hk hl zero = hk 0
 small-append (b ∷ k) l hk hl (suc i) = small-append k l (λ j. hk (suc j)) hl i
@@ -58,6 +58,11 @@ small-take (suc n) (b ∷ l) h (suc i) = small-take n l (λ j. h (suc j)) i
 -- those after the first n are 0 or 1
 pub small-drop : (n : ℕ) (l : List ℕ) → Small l → Small (drop n l)
 small-drop n l h i = rw (getD-drop n l i 0) (h (n + i))
+
+-- so are those behind others
+pub small-behind : (k l : List ℕ) → Small (k ++ l) → Small l
+small-behind [] l h i = h i
+small-behind (b ∷ k) l h i = small-behind k l (λ j. h (suc j)) i
 
 -- the bits of a number, the highest first, are 0 or 1
 pub small-highBits : (w n : ℕ) → Small (highBits w n)
@@ -132,6 +137,13 @@ number-mod (suc w) n =
 -- a number of w bits is the number that its bits are
 pub number-high : (w n : ℕ) → n < 2 ^ w → numberOf (highBits w n) ≡ n
 number-high w n h = number-mod w n ∙ mod-eq-of-lt h
+
+-- w bits are those of their number
+pub own-bits : (l : List ℕ) (w : ℕ) → Small l → length l ≡ w → highBits w (numberOf l) ≡ l
+own-bits l w h e =
+    let x = numberOf l in
+    let small : x < 2 ^ w = rw e at (number-small l h) in
+    number-one (highBits w x) l (small-highBits w x) h (length-highBits w x ∙ sym e) (number-high w x small)
 
 -- the first k + m bits are the first k above the m that follow
 pub number-split : (l : List ℕ) (k m : ℕ) → k + m ≤ length l

@@ -1,4 +1,3 @@
 pub mod Laws
 pub mod Windows
-pub mod Signs
 pub mod Raised

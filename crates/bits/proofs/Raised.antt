@@ -1,11 +1,13 @@
 -- Whole numbers held without a sign: their sums, their differences, and when two are the same. Assumes nothing.
-use Prim.Native.Nat.{ℕ, zero, suc, _+_, _-_}
+use Prim.Native.Nat.{ℕ, zero, suc, _+_, _-_, _≤_, _<_}
 use mathlib.Core.Path.{_≡_, refl, sym, ap, _∙_}
 use mathlib.Core.Bool.{Bool, true, false, cond}
+use mathlib.Core.Logic.{_⊎_, inl, inr}
 use native.Mathlib.Omega.{arith}
 use borrow.Author.Tests.{ltb-true, ltb-false, lt-ltb, le-ltb}
 use lib.Dec.{ltb}
 use lib.IntN.{ℤ, pos, negsuc, negℤ, _+ℤ_, _-ℤ_}
+use lib.Signed.{mag}
 use Rattle.bits.specs.InnerRaised.{lower}
 
 -- x is `much` more than a whole number
@@ -27,6 +29,31 @@ held-is : (much x : ℕ) (z : ℤ) → Held much x z → lower much x ≡ z
 unfolding lower
 held-is much x (pos n) h = let e : x - much ≡ n = omega arith in simp (le-ltb x much (omega arith), e)
 held-is much x (negsuc n) h = let e : much - suc x ≡ n = omega arith in simp (lt-ltb x much (omega arith), e)
+
+-- two that are held as one number are one
+pub lower-one : (much x y : ℕ) → lower much x ≡ lower much y → x ≡ y
+lower-one much x y e = go (lower much y) (rw e at (held much x)) (held much y)
+  where
+    go : (z : ℤ) → Held much x z → Held much y z → x ≡ y
+    go (pos n) h g = omega arith
+    go (negsuc n) h g = omega arith
+
+-- how large what is held is: within so much, and not
+pub mag-inside : (much x b : ℕ) → much ≤ x + b → x < much + b → mag (lower much x) < b
+mag-inside much x b h g = go (lower much x) (held much x)
+  where
+    go : (z : ℤ) → Held much x z → mag z < b
+    go (pos n) e = omega arith
+    go (negsuc n) e = omega arith
+
+pub mag-outside : (much x b : ℕ) → (x + b < much) ⊎ (much + b ≤ x) → b ≤ mag (lower much x)
+mag-outside much x b o = go (lower much x) (held much x) o
+  where
+    go : (z : ℤ) → Held much x z → (x + b < much) ⊎ (much + b ≤ x) → b ≤ mag z
+    go (pos n) e (inl h) = absurd (omega arith)
+    go (pos n) e (inr h) = omega arith
+    go (negsuc n) e (inl h) = omega arith
+    go (negsuc n) e (inr h) = absurd (omega arith)
 
 -- two numbers hold the same where they differ as much as what is added does
 pub lower-same : (a x b y : ℕ) → x + b ≡ y + a → lower a x ≡ lower b y

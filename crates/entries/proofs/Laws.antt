@@ -1,15 +1,15 @@
 -- What the proofs of the crates above cite. Assumes nothing.
-use Prim.Native.Nat.{ℕ, _+_, _*_, _≤_, _<_}
+use Prim.Native.Nat.{ℕ, _≤_, _<_}
 use mathlib.Core.Path.{_≡_}
-use mathlib.Core.Bool.{true, not, _&&_, and-eq-true-iff}
+use mathlib.Core.Bool.{true, not, and-eq-true-iff}
 use mathlib.Core.List.{List}
 use native.Mathlib.Omega.{arith}
 use lib.Dec.{leb, eqb}
 use borrow.Author.Tests.{leb-true, eqb-false, not-true}
-use Rattle.wire.specs.Rules.{allIn, endsBy}
+use Rattle.wire.specs.Rules.{allIn}
 use Rattle.wire.proofs.Laws.{all-at}
 use Rattle.entries.specs.Leads.{leadCount, firstSample, lastSample, sampleCount, leadRight, section3Right}
-use Rattle.entries.specs.Streams.{stepOf, intervalOf, orderOf, streamStart, streamsRight}
+use Rattle.entries.specs.Streams.{stepOf, intervalOf, streamsRight}
 
 -- what Section 3's rule says
 pub record RightLeads (s : List ℕ) : Type 0 where
@@ -22,28 +22,25 @@ pub leads-right : (s : List ℕ) → section3Right s ≡ true → RightLeads s
 unfolding section3Right
 leads-right s h =
     let n = leadCount s in
-    let right = allIn 0 n (leadRight s) in
-    let ends = endsBy 1 s (18 + 9 * n) in
-    let p = and-eq-true-iff (leb 1 n) (leb n 32 && (right && ends)) .0 h in
-    let q = and-eq-true-iff (leb n 32) (right && ends) .0 (p .1) in
-    record { some = leb-true 1 n (p .0); most = leb-true n 32 (q .0); right = and-eq-true-iff right ends .0 (q .1) .0 }
+    let p = and-eq-true-iff (leb 1 n) _ .0 h in
+    let q = and-eq-true-iff (leb n 32) _ .0 (p .1) in
+    let r = and-eq-true-iff (allIn 0 n (leadRight s)) _ .0 (q .1) in
+    record { some = leb-true 1 n (p .0); most = leb-true n 32 (q .0); right = r .0 }
 
 -- each of its leads has 1 to 65,536 samples
 pub lead-samples : (s : List ℕ) (k : ℕ) → section3Right s ≡ true → k < leadCount s → (1 ≤ sampleCount s k) × (sampleCount s k ≤ 65536)
 unfolding leadRight
 lead-samples s k h g =
-    let ordered = leb (firstSample s k) (lastSample s k) in
-    let few = leb (sampleCount s k) 65536 in
     let t = all-at (leadRight s) 0 (leadCount s) (leads-right s h .right) k (omega arith) g in
-    let p = and-eq-true-iff ordered few .0 (and-eq-true-iff (leb 1 (firstSample s k)) (ordered && few) .0 t .1) in
+    let p = and-eq-true-iff (leb 1 (firstSample s k)) _ .0 t in
+    let q = and-eq-true-iff (leb (firstSample s k) (lastSample s k)) _ .0 (p .1) in
     omega (arith, leb-true)
 
 -- streams that keep their rule have an interval
 pub interval-some : (n : ℕ) (s : List ℕ) → streamsRight n s ≡ true → 0 < intervalOf s
 unfolding streamsRight
 interval-some n s h =
-    let given = not (eqb (intervalOf s) 0) in
-    let rest = leb (orderOf s) 2 && endsBy 1 s (streamStart n s n) in
-    let p = and-eq-true-iff given rest .0 (and-eq-true-iff (not (eqb (stepOf s) 0)) (given && rest) .0 h .1) in
-    let z = eqb-false (intervalOf s) 0 (not-true (eqb (intervalOf s) 0) (p .0)) in
+    let p = and-eq-true-iff (not (eqb (stepOf s) 0)) _ .0 h in
+    let q = and-eq-true-iff (not (eqb (intervalOf s) 0)) _ .0 (p .1) in
+    let z = eqb-false (intervalOf s) 0 (not-true (eqb (intervalOf s) 0) (q .0)) in
     omega arith

@@ -1,6 +1,6 @@
 -- What the proofs of this crate and of those above it cite. Assumes nothing.
-use Prim.Native.Nat.{ℕ, zero, suc, _+_, _-_, _≤_, _<_}
-use mathlib.Core.Path.{_≡_, refl, sym, ap, _∙_}
+use Prim.Native.Nat.{ℕ, suc, _+_, _-_, _≤_, _<_}
+use mathlib.Core.Path.{_≡_, refl, ap}
 use mathlib.Core.Bool.{Bool, true, false, cond, and-false}
 use mathlib.Core.List.{List, [], _∷_}
 use native.Mathlib.Omega.{arith}
@@ -8,11 +8,12 @@ use lib.Dec.{eqb}
 use lib.ListN.{length, getD, drop, length-take, length-drop, drop-of-length-le}
 use lib.Seq.{drop-cons}
 use borrow.Author.Tests.{eq-eqb, ne-eqb}
+use Rattle.wire.proofs.Laws.{unlike}
 use Rattle.header.specs.declared.Field.{Field}
 use Rattle.header.specs.declared.Step.{Step}
 use Rattle.header.specs.declared.Step.the-variants.{Found, End}
 use Rattle.header.specs.Fields.{fieldsFrom, withTag, occurring}
-use Rattle.header.proofs.Laws.{Within, found-within}
+use Rattle.header.proofs.Laws.{found-within}
 use Rattle.pointers.specs.Pointers.{startOf, sectionOf}
 use Rattle.record.specs.Opening.{openRefusal, opens}
 use Rattle.fields.specs.declared.Place.{Place}
@@ -44,11 +45,9 @@ pub place-inside : (r : List ℕ) (tag n start size : ℕ) → fieldPlace r tag 
 unfolding fieldPlace
 place-inside r tag n start size h = opened (opens r) h
   where
-    unlike : (k : ℕ) → Refused k ≡ At start size → start + size ≤ length r
-    unlike k e = absurd (let z : _≡_ {A = ℕ} 0 1 = cc in omega arith)
-
-    found : (s : Step) → occurring n (withTag tag (fieldsFrom (sectionOf r 1) 16)) ≡ s → placeFound (startOf r 1) s ≡ At start size → start + size ≤ length r
-    found End q e = unlike 10 e
+    found : (s : Step) → occurring n (withTag tag (fieldsFrom (sectionOf r 1) 16)) ≡ s → placeFound (startOf r 1) s ≡ At start size
+        → start + size ≤ length r
+    found End q e = unlike cc
     found (Found f) q e =
         let w = found-inside r n tag f q in
         let a : startOf r 1 + f .start ≡ start = cc in
@@ -56,10 +55,10 @@ place-inside r tag n start size h = opened (opens r) h
         omega arith
 
     opened : (b : Bool)
-        → cond b (placeFound (startOf r 1) (occurring n (withTag tag (fieldsFrom (sectionOf r 1) 16)))) (Refused (openRefusal r)) ≡ At start size
-        → start + size ≤ length r
+        → cond b (placeFound (startOf r 1) (occurring n (withTag tag (fieldsFrom (sectionOf r 1) 16)))) (Refused (openRefusal r))
+        ≡ At start size → start + size ≤ length r
     opened true e = found (occurring n (withTag tag (fieldsFrom (sectionOf r 1) 16))) refl e
-    opened false e = unlike (openRefusal r) e
+    opened false e = unlike cc
 
 -- a turn of the comparison: where bytes are equal, what is left decides; where they differ, or one list ends, they are not the same
 pub same-turn : (a b : List ℕ) (i : ℕ) → i < length a → i < length b → getD a i 0 ≡ getD b i 0

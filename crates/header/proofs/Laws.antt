@@ -8,6 +8,7 @@ use native.Mathlib.Omega.{arith}
 use lib.ListN.{length}
 use borrow.Author.Tests.{lt-leb, eq-eqb, ne-eqb}
 use Rattle.wire.specs.Numbers.{numberAt}
+use Rattle.wire.proofs.Laws.{unlike}
 use Rattle.header.specs.declared.Field.{Field}
 use Rattle.header.specs.declared.Step.{Step}
 use Rattle.header.specs.declared.Step.the-variants.{Found, End}
@@ -26,8 +27,8 @@ pub record Within (s : List ℕ) (at : ℕ) (f : Field) : Type 0 where
   pub end : f .end ≤ length s
 
 -- the end is no field
-unlike : {X : Type 0} {f : Field} → End ≡ Found f → X
-unlike h = absurd (let z : _≡_ {A = ℕ} 0 1 = cc in omega arith)
+no-field : {X : Type 0} {f : Field} → End ≡ Found f → X
+no-field h = unlike cc
 
 -- where the bytes end before the field would, a step shows none
 pub step-past : (s : List ℕ) (at : ℕ) → length s < at + 3 + numberAt 2 s (at + 1) → stepAt s at ≡ End
@@ -41,11 +42,11 @@ step-found s at f h = go (decLe (at + 3 + numberAt 2 s (at + 1)) (length s))
   where
     same : (b : Bool) → cond b (Found (fieldAt s at)) End ≡ Found f → fieldAt s at ≡ f
     same true h = cc
-    same false h = unlike h
+    same false h = no-field h
 
     go : Dec (at + 3 + numberAt 2 s (at + 1) ≤ length s) → Whole s at f
     go (yes fits) = rw (← same (isField s at) h) (omega arith)
-    go (no past) = unlike (sym (step-past s at (omega arith)) ∙ h)
+    go (no past) = no-field (sym (step-past s at (omega arith)) ∙ h)
 
 -- walks that agree behind the field that a step shows agree
 onward-same : (l m : ℕ → List Field) (r : Step) → ((f : Field) → r ≡ Found f → l (f .end) ≡ m (f .end)) → onward l r ≡ onward m r
@@ -71,7 +72,7 @@ module _ (s : List ℕ) (P : ℕ → Type 0) (turn : (at : ℕ) → ((f : Field)
   along-left zero at h = turn at (λ f e. let w = step-found s at f e in absurd (omega arith))
   along-left (suc n) at h = turn at (λ f e. let w = step-found s at f e in along-left n (f .end) (omega arith))
 
-  along : (at : ℕ) → P at
+  pub along : (at : ℕ) → P at
   along at = along-left (length s) at (omega arith)
 
 -- where the step shows the end, the fields end there
@@ -80,7 +81,8 @@ unfolding fieldsEnd
 end-here s at e = rw (fields-step s at, e)
 
 -- where it shows a field, they end where those behind it do
-pub end-later : (s : List ℕ) (at : ℕ) (f : Field) → stepAt s at ≡ Found f → fieldsEnd at (fieldsFrom s at) ≡ fieldsEnd (f .end) (fieldsFrom s (f .end))
+pub end-later : (s : List ℕ) (at : ℕ) (f : Field) → stepAt s at ≡ Found f
+    → fieldsEnd at (fieldsFrom s at) ≡ fieldsEnd (f .end) (fieldsFrom s (f .end))
 unfolding fieldsEnd
 end-later s at f e = rw (fields-step s at, e)
 
@@ -128,7 +130,7 @@ withTag-from t s = along s (Named t s) turn
 pub first-none : (l : List Field) → occurring 1 l ≡ End → l ≡ []
 unfolding occurring
 first-none [] h = refl
-first-none (f ∷ l) h = unlike (sym h)
+first-none (f ∷ l) h = no-field (sym h)
 
 -- where there is a first with a tag, the others with it are those from its end on
 pub first-found : (t : ℕ) (s : List ℕ) (at : ℕ) (f : Field) → occurring 1 (withTag t (fieldsFrom s at)) ≡ Found f
@@ -137,7 +139,7 @@ unfolding occurring
 first-found t s at f h = go (withTag-from t s at)
   where
     go : Named t s at → withTag t (fieldsFrom s at) ≡ f ∷ withTag t (fieldsFrom s (f .end))
-    go (none e) = unlike (rw e at h)
+    go (none e) = no-field (rw e at h)
     go (first g w e) = let q = rw e at h in let same : g ≡ f = cc in rw same at e
 
 -- of none there is no occurrence
@@ -156,12 +158,12 @@ occurring-later (suc (suc n)) f l h = let e : suc (suc n) - 1 ≡ suc n = omega 
 -- a field that is found lies within the list
 pub found-within : (n t : ℕ) (s : List ℕ) (at : ℕ) (f : Field) → occurring n (withTag t (fieldsFrom s at)) ≡ Found f → Within s at f
 unfolding occurring
-found-within zero t s at f h = unlike h
+found-within zero t s at f h = no-field h
 found-within (suc n) t s at f h = go n (withTag-from t s at) h (found-within n t s)
   where
     go : (n : ℕ) → Named t s at → occurring (suc n) (withTag t (fieldsFrom s at)) ≡ Found f
         → ((e : ℕ) (f : Field) → occurring n (withTag t (fieldsFrom s e)) ≡ Found f → Within s e f) → Within s at f
-    go n (none e) h later = unlike (rw e at h)
+    go n (none e) h later = no-field (rw e at h)
     go zero (first g w e) h later = let q = rw e at h in let same : g ≡ f = cc in rw same at w
     go (suc n) (first g w e) h later =
         let v = later (g .end) f (rw e at h) in

@@ -91,7 +91,7 @@ pub evened-even : (contents : List ℕ) → length contents % 2 ≡ 0 → evened
 unfolding evened
 evened-even contents h = rw h (append-nil contents)
 
-length-checked : (body : List ℕ) → length (checked body) ≡ 2 + length body
+pub length-checked : (body : List ℕ) → length (checked body) ≡ 2 + length body
 unfolding checked
 length-checked body = rw (length-append (bytesOf 2 (crcOf body)) body, length-bytesOf 2 (crcOf body))
 
@@ -217,7 +217,7 @@ unfolding byteCounts countsOf
 counts-are [] = refl
 counts-are (stream ∷ streams) = ap (λ (l : List ℕ). bytesOf 2 (length stream) ++ l) (counts-are streams)
 
-length-countsOf : (streams : List (List ℕ)) → length (countsOf streams) ≡ 2 * length streams
+pub length-countsOf : (streams : List (List ℕ)) → length (countsOf streams) ≡ 2 * length streams
 length-countsOf streams = rw (← counts-are streams, length-byteCounts (map length streams), length-map)
 
 pub length-streamsData : (step interval order : ℕ) (streams : List (List ℕ))

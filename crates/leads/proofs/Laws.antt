@@ -1,7 +1,7 @@
 -- What the proofs of this crate cite. Assumes nothing.
 use Prim.Native.Nat.{ℕ, zero, suc, _+_, _-_, _≤_, _<_}
 use mathlib.Core.Path.{_≡_, refl, sym, ap, _∙_}
-use mathlib.Core.Bool.{Bool, true, false, not, _&&_, _||_, cond, and-eq-true-iff}
+use mathlib.Core.Bool.{Bool, true, false, cond, and-eq-true-iff}
 use mathlib.Core.List.{List, [], _∷_, _++_}
 use mathlib.Core.Logic.{inl}
 use native.Mathlib.Omega.{arith}
@@ -11,7 +11,7 @@ use lib.IntN.{ℤ, pos}
 use lib.ListN.{length, take, drop, set, replicate, take-append-drop}
 use lib.Seq.{take-all, drop-set-lt, drop-drop, take-suc-set}
 use borrow.Author.Tests.{leb-true}
-use Rattle.wire.specs.Rules.{unless}
+use Rattle.wire.proofs.Laws.{kept-first, unlike}
 use Rattle.wire.proofs.Tests.{same, differ}
 use Rattle.pointers.specs.Pointers.{present, sectionOf}
 use Rattle.tables.specs.Section2.{tablesIn}
@@ -19,12 +19,11 @@ use Rattle.compiled.specs.InnerForm.{Ready, Holding}
 use Rattle.entries.specs.Leads.{firstSample}
 use Rattle.entries.proofs.Laws.{leads-right, lead-samples}
 use Rattle.rules.specs.Rules.{leadsOf, hasBeat, beatCount, leadRefusal}
-use Rattle.rules.proofs.Laws.{kept-first, both-passed, asked, sound}
+use Rattle.rules.proofs.Laws.{both-passed, asked, sound}
 use Rattle.samples.specs.Trace.{Trace, rebuilt, fault, afterTrace, traceOf}
 use Rattle.traces.proofs.Laws.{rebuilt-length}
 use Rattle.beats.specs.Sums.{addBeat}
 use Rattle.beats.proofs.Laws.{added-length}
-use Rattle.leads.specs.declared.Entry.{Entry}
 use Rattle.leads.specs.Leads.{tablesOf, countAt, streamTrace, residual, traceAt, roomRight, readRefusal, readTrace}
 use Rattle.leads.specs.InnerLead.{Readable, clearedIf}
 use Rattle.leads.specs.Answers.{outAfter, workAfter, entryAnswer}
@@ -155,10 +154,8 @@ pub readable : (r : List ℕ) (place room work : ℕ) → readRefusal r place ro
 unfolding readRefusal roomRight
 readable r place room work h =
     let k = place - 1 in
-    let enough = leb (countAt r k) room in
-    let beat = not (hasBeat r) || leb (beatCount r) work in
-    let p = both-passed (leadRefusal r place) (unless (enough && beat) 11 0) h in
-    let q = and-eq-true-iff enough beat .0 (kept-first (enough && beat) 10 0 (p .1) .0) in
+    let p = both-passed (leadRefusal r place) _ h in
+    let q = and-eq-true-iff (leb (countAt r k) room) _ .0 (kept-first (roomRight r k room work) 10 _ (p .1) .0) in
     let s = sound r place (p .0) in
     let most = leads-right (sectionOf r 3) (s .leads) .most in
     let inside : k < leadsOf r = omega (arith, s .first, s .last) in
@@ -185,8 +182,8 @@ trace-length r k xs h = go (hasBeat r) (streamTrace r 5 (beatCount r) k) (residu
     go : (b : Bool) (beat behind : Trace) → ((ys : List ℤ) → behind ≡ rebuilt ys → length ys ≡ countAt r k) →
         rebuilt xs ≡ cond b (afterTrace (λ bs. afterTrace (λ ys. addBeat (sectionOf r 4) bs (firstSample (sectionOf r 3) k) ys) behind) beat) behind → length xs ≡ countAt r k
     go false beat behind g e = g xs (sym e)
-    go true (fault n) behind g e = let z : _≡_ {A = ℕ} 0 1 = cc in absurd (omega arith)
-    go true (rebuilt bs) (fault n) g e = let z : _≡_ {A = ℕ} 0 1 = cc in absurd (omega arith)
+    go true (fault n) behind g e = unlike cc
+    go true (rebuilt bs) (fault n) g e = unlike cc
     go true (rebuilt bs) (rebuilt ys) g e = added-length (sectionOf r 4) bs (firstSample (sectionOf r 3) k) ys xs (sym e) ∙ g ys refl
 
 -- what was read, with a number beside it

@@ -10,17 +10,18 @@ use native.Mathlib.Omega.{arith}
 use borrow.Author.Tests.{ltb-true, lt-ltb, leb-true}
 use lib.Dec.{leb}
 use lib.IntN.{ℤ}
-use lib.ListN.{length, take, drop, length-append, length-drop, take-append-drop}
+use lib.ListN.{length, take, drop, length-append, take-append-drop}
 use lib.Seq.{length-take-le}
 use lib.Signed.{mag}
-use Rattle.bits.specs.Bits.{highBits, numberOf, signed, begins}
-use Rattle.bits.proofs.Laws.{Small, length-highBits, length-lowBits, small-take, small-drop, small-highBits, small-lowBits, number-small, begins-split}
+use Rattle.wire.proofs.Laws.{unlike}
+use Rattle.bits.specs.Bits.{highBits, numberOf, signed}
+use Rattle.bits.proofs.Laws.{Small, length-highBits, length-lowBits, small-append, small-behind, small-take, small-drop, small-highBits, small-lowBits, number-small, own-bits}
 use Rattle.tables.specs.declared.Structure.{Structure}
-use Rattle.tables.specs.Structures.{noStructure, prefixOf, remainderOf, structureRight, every}
+use Rattle.tables.specs.Structures.{prefixOf, remainderOf, every}
 use Rattle.tables.specs.Section2.{tableOf, tableRight}
-use Rattle.tables.proofs.Laws.{Fine, fine, every-at}
+use Rattle.tables.proofs.Laws.{Fine, fine}
 use Rattle.reading.specs.Reading.{gave, stuck, matching, valueOf, readCoded, readNext}
-use Rattle.reading.proofs.Laws.{table-there, matched, read-switch, read-value, read-none}
+use Rattle.reading.proofs.Laws.{structure-there, matched, falls, read-switch, read-value, read-none, next-coded, gave-value, gave-table, gave-rest}
 use Rattle.reading.proofs.Trip.{trip-switch, trip-base, trip-rest}
 use Rattle.paths.specs.InnerPaths.{There, Sound, Reads, done, value, switch, Best, Exact, gives, leads}
 use Rattle.paths.proofs.Optimal.{exact-none}
@@ -28,7 +29,7 @@ use Rattle.paths.proofs.Compared.{compared-unique}
 use Rattle.shortest.specs.Shortest as S
 use Rattle.shortest.specs.Shortest.{areBits, ReadsTo, Stream, Shortest, NoStream}
 use Rattle.shortest.specs.InnerRule.{twos, holds, serves, kindOf, wordOf, structureOf, rule}
-use Rattle.shortest.proofs.Laws.{unlike, twos-small, signed-twos, twos-signed, equal-true, equal-self, bits-small, small-bits, small-behind, small-both, own-bits, gave-value, gave-table, gave-rest, kind-switch, kind-value, leads-switch, gives-value}
+use Rattle.shortest.proofs.Laws.{twos-small, signed-twos, twos-signed, equal-true, equal-self, bits-small, small-bits, kind-switch, kind-value, leads-switch, gives-value}
 
 -- ---- the promise
 
@@ -44,7 +45,7 @@ small-word : (c : Structure) (v : ℤ) → Small (wordOf c v)
 unfolding wordOf
 small-word c v =
     let r = remainderOf c in
-    small-both (prefixOf c) (highBits r (twos r v)) (small-lowBits (c .prefix) (c .code)) (small-highBits r (twos r v))
+    small-append (prefixOf c) (highBits r (twos r v)) (small-lowBits (c .prefix) (c .code)) (small-highBits r (twos r v))
 
 no-bits : (n : ℕ) → highBits 0 n ≡ []
 unfolding highBits
@@ -64,9 +65,7 @@ module _ (n : ℕ) (tables : List (List Structure)) (right : every (tableRight n
     (hk : k < length (tableOf tables t)) where
   -- a structure of a right table is right
   pub structure-fine : Fine n (structureOf tables t k)
-  structure-fine =
-      let cs = tableOf tables t in
-      fine n (structureOf tables t k) (every-at (structureRight n) noStructure cs (table-there n tables right t (omega arith) .right) k hk)
+  structure-fine = fine n (structureOf tables t k) (structure-there n tables right t k hk)
 
   -- a value's word gives the value
   read-word : (v : ℤ) (bs : List ℕ) → kindOf (structureOf tables t k) v ≡ gives
@@ -134,21 +133,6 @@ read-value-bits (suc w) base t bs v next rest small h = go (leb r (length bs)) r
         }
     go false e g = unlike cc
 
--- the bits begin with the prefix of what they match
-matching-begins : (cs : List Structure) (bs : List ℕ) (c : Structure) → matching cs bs ≡ some c → begins (prefixOf c) bs ≡ true
-unfolding matching
-matching-begins [] bs c h = unlike cc
-matching-begins (d ∷ cs) bs c h = go (begins (prefixOf d) bs) refl h (matching-begins cs bs c)
-  where
-    go : (b : Bool) → begins (prefixOf d) bs ≡ b → cond b (some d) (matching cs bs) ≡ some c
-        → (matching cs bs ≡ some c → begins (prefixOf c) bs ≡ true) → begins (prefixOf c) bs ≡ true
-    go true e g rest = let same : d ≡ c = cc in rw (← same) e
-    go false e g rest = rest g
-
-matching-split : (cs : List Structure) (bs : List ℕ) (c : Structure) → matching cs bs ≡ some c → bs ≡ prefixOf c ++ drop (c .prefix) bs
-matching-split cs bs c h =
-    rw (length-lowBits (c .prefix) (c .code)) at (begins-split (prefixOf c) bs (matching-begins cs bs c h))
-
 module _ (n : ℕ) (tables : List (List Structure)) (right : every (tableRight n) tables ≡ true) where
   -- a value was read by a word, behind which any bits may stand, and any stream from there on
   pub record Behind (t : ℕ) (bs : List ℕ) (v : ℤ) (next : ℕ) (rest : List ℕ) : Type 0 where
@@ -193,12 +177,10 @@ module _ (n : ℕ) (tables : List (List Structure)) (right : every (tableRight n
       at k hk e (yes m) =
           let c = structureOf tables t k in
           let p = c .prefix in
-          let parts = matching-split (tableOf tables t) bs c e in
-          let ok = structure-fine n tables right t k hk in
-          let long = matched (tableOf tables t) bs c e .long in
-          let b = shorter (c .base) (drop p bs) v next rest (omega (arith, length-drop p bs, ok .some)) (small-drop p bs small)
+          let parts = matched (tableOf tables t) bs c e .split in
+          let b = shorter (c .base) (drop p bs) v next rest (omega (arith, falls n tables right t bs c e)) (small-drop p bs small)
           (sym (read-switch n tables right t bs c e m) ∙ h) in
-          let word = word-prefix c v (omega (arith, ok .switch m)) in
+          let word = word-prefix c v (omega (arith, structure-fine n tables right t k hk .switch m)) in
           let kind = kind-switch c v m in
           record {
             small = b .small;
@@ -210,7 +192,7 @@ module _ (n : ℕ) (tables : List (List Structure)) (right : every (tableRight n
           }
       at k hk e (no m) =
           let c = structureOf tables t k in
-          behind-value t k bs v next rest hk small m (matching-split (tableOf tables t) bs c e)
+          behind-value t k bs v next rest hk small m (matched (tableOf tables t) bs c e .split)
           (sym (read-value n tables right t bs c e m) ∙ h)
 
       found : (c : Option Structure) → matching (tableOf tables t) bs ≡ c → Behind t bs v next rest
@@ -224,12 +206,6 @@ module _ (n : ℕ) (tables : List (List Structure)) (right : every (tableRight n
   behind-within (suc f) t bs v next rest l small h = behind-step f (behind-within f) t bs v next rest l small h
 
 -- ---- right tables, one at least
-
--- the rule reads by the tables
-pub next-coded : (tables : List (List Structure)) → 1 ≤ length tables → (t : ℕ) (bs : List ℕ) → readNext tables t bs ≡ readCoded tables t bs
-unfolding readNext
-next-coded [] h t bs = absurd (omega arith)
-next-coded (cs ∷ tables) h t bs = refl
 
 module _ (tables : List (List Structure)) (right : every (tableRight (length tables)) tables ≡ true) (there : 1 ≤ length tables) where
   -- what the search asks of tables
@@ -245,9 +221,9 @@ module _ (tables : List (List Structure)) (right : every (tableRight (length tab
   pub reads-small : {t : ℕ} {bs : List ℕ} {vs : List ℤ} → Reads (rule tables) t bs vs → Small bs
   reads-small done = λ i. omega arith
   reads-small (value {t = t} k {v = v} {s = bs} hk e r) =
-      small-both (wordOf (structureOf tables t k) v) bs (small-word (structureOf tables t k) v) (reads-small r)
+      small-append (wordOf (structureOf tables t k) v) bs (small-word (structureOf tables t k) v) (reads-small r)
   reads-small (switch {t = t} k u {v = v} {s = bs} hk e r) =
-      small-both (wordOf (structureOf tables t k) v) bs (small-word (structureOf tables t k) v) (reads-small r)
+      small-append (wordOf (structureOf tables t k) v) bs (small-word (structureOf tables t k) v) (reads-small r)
 
   -- where a switch's word is read on from
   carried : {t u : ℕ} {bs rest : List ℕ} {v : ℤ} {vs : List ℤ} → readNext tables t bs ≡ readNext tables u rest

@@ -1,28 +1,27 @@
 -- How many bits the shortest stream takes, by computation: costs are made layer by layer and tested to be closed, so that no stream is
 -- shorter; and one stream is shown to be that short. Assumes nothing.
 use Prim.Native.Nat.{ℕ, zero, suc, _^_, _≤_, _<_, min}
-use mathlib.Core.Path.{_≡_, refl}
+use mathlib.Core.Path.{_≡_}
 use mathlib.Core.Bool.{Bool, true, _&&_, and-eq-true-iff}
 use mathlib.Core.List.{List, [], _∷_}
 use native.Mathlib.Omega.{arith}
 use borrow.Author.Tests.{leb-true, ltb-true}
 use lib.Dec.{leb}
-use lib.IntN.{ℤ, pos, negsuc}
-use lib.ListN.{length, getD, take, replicate, getD-replicate}
+use lib.IntN.{ℤ, pos}
+use lib.ListN.{length, getD, replicate, getD-replicate}
 use lib.Pow.{pow-mono}
 use lib.Signed.{mag}
-use Rattle.wire.specs.Rules.{each, allIn}
+use Rattle.wire.specs.Rules.{allIn}
 use Rattle.wire.proofs.Laws.{all-at}
-use Rattle.bits.specs.Bits.{highBits, lowBits, bitsIn, numberAfter, signed, begins}
+use Rattle.bits.specs.Bits.{signed}
 use Rattle.tables.specs.declared.Structure.{Structure}
-use Rattle.tables.specs.Structures.{remainderOf, modeRight, structureRight, apart, every, prefixFree}
-use Rattle.tables.specs.Section2.{tableOf, tableRight}
-use Rattle.reading.specs.Reading.{matching, valueOf, afterMatch, readWithin, readCoded, readNext}
+use Rattle.tables.specs.Structures.{remainderOf, every}
+use Rattle.tables.specs.Section2.{tableRight}
 use Rattle.paths.specs.InnerPaths.{Codes, There, Sound, Reads, done, value, switch, cost, Closed}
 use Rattle.paths.proofs.Optimal.{lower}
 use Rattle.shortest.specs.Shortest.{areBits, Stream, NoStream, Takes}
-use Rattle.shortest.specs.InnerRule.{twos, holds, equal, serves, kindOf, wordOf, structureOf, rule}
-use Rattle.shortest.proofs.Laws.{unlike, base-small, equal-true, gives-value}
+use Rattle.shortest.specs.InnerRule.{holds, serves, structureOf, rule}
+use Rattle.shortest.proofs.Laws.{base-small, equal-true, gives-value}
 use Rattle.shortest.proofs.Bridge.{structure-fine, sound, reads-of}
 use Rattle.shortest.proofs.Plain.{plain-none}
 use Rattle.shortest.proofs.Existence.{readsIt, passes-reads, shortest-there}

@@ -8,14 +8,14 @@ use lib.IntN.{ℤ}
 use lib.ListN.{length}
 use Rattle.wire.specs.Numbers.{bytesOf}
 use Rattle.bits.specs.Bits.{bitsIn}
-use Rattle.bits.proofs.Laws.{Small}
+use Rattle.bits.proofs.Laws.{Small, small-behind}
 use Rattle.tables.specs.declared.Structure.{Structure}
 use Rattle.tables.specs.Structures.{every}
 use Rattle.tables.specs.Section2.{tableRight}
 use Rattle.reading.specs.Reading.{gave, readNext}
 use Rattle.shortest.specs.InnerRule.{twos}
-use Rattle.shortest.proofs.Laws.{small-behind}
-use Rattle.shortest.proofs.Bridge.{behind-within, next-coded}
+use Rattle.reading.proofs.Laws.{next-coded}
+use Rattle.shortest.proofs.Bridge.{behind-within}
 use Rattle.shortest.proofs.Plain.{plain-read, plain-taken}
 
 pub record Cut (tables : List (List Structure)) (t : ℕ) (bs : List ℕ) (v : ℤ) (next : ℕ) (rest : List ℕ) : Type 0 where

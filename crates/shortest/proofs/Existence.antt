@@ -10,13 +10,14 @@ use native.Mathlib.Decide.{decLe}
 use native.Mathlib.Omega.{arith}
 use lib.IntN.{ℤ}
 use lib.ListN.{length}
+use Rattle.wire.proofs.Laws.{unlike}
 use Rattle.bits.proofs.Laws.{Small}
 use Rattle.tables.specs.declared.Structure.{Structure}
 use Rattle.reading.specs.Reading.{Next, gave, stuck, readNext}
 use Rattle.paths.specs.Before.{Before, here, there}
 use Rattle.shortest.specs.Shortest.{ReadsTo, done, value, Stream, Shortest, NoStream}
 use Rattle.shortest.specs.InnerRule.{equal}
-use Rattle.shortest.proofs.Laws.{unlike, equal-true, equal-self, bits-small, small-bits}
+use Rattle.shortest.proofs.Laws.{equal-true, equal-self, bits-small, small-bits}
 
 -- ---- the first list of bits, of some length, that passes a test
 

@@ -14,22 +14,25 @@ use lib.IntN.{ℤ, pos, negsuc}
 use lib.ListN.{length}
 use lib.Pow.{pow-pos, pow-mono, pow-add, split, shl-lt}
 use lib.Signed.{mag}
+use Rattle.wire.proofs.Laws.{unlike}
 use Rattle.bits.specs.Bits.{highBits, numberAfter, numberOf, signed, begins}
 use Rattle.bits.specs.InnerRaised.{lower}
 use Rattle.bits.specs.InnerWindow.{turned}
-use Rattle.bits.proofs.Laws.{Small, length-lowBits, small-lowBits, number-after, number-small}
+use Rattle.bits.proofs.Laws.{Small, length-lowBits, small-lowBits, number-after, number-small, own-bits}
+use Rattle.bits.proofs.Raised.{lower-one, mag-inside, mag-outside}
 use Rattle.tables.specs.declared.Structure.{Structure}
 use Rattle.tables.specs.Structures.{prefixOf, remainderOf, structureRight, apart, every}
 use Rattle.tables.specs.Section2.{tableOf, tableRight}
 use Rattle.tables.proofs.Laws.{fine, free-at}
 use Rattle.compiled.specs.declared.Form.{Form}
 use Rattle.compiled.specs.InnerForm.{lowest, beyond, formOf}
-use Rattle.reading.proofs.Laws.{table-there, lower-base, to-value, to-switch}
+use Rattle.reading.proofs.Laws.{table-there, to-value, to-switch}
+use Rattle.reading.proofs.Cursors.{lower-base}
 use Rattle.paths.specs.Before.{Before, here, there}
 use Rattle.paths.specs.InnerPaths.{dead, gives, leads, NotAfter}
 use Rattle.paths.proofs.Compared.{before-tails}
 use Rattle.shortest.specs.InnerRule.{twos, holds, equal, serves, kindOf, wordOf, structureOf, rule}
-use Rattle.shortest.proofs.Laws.{unlike, equal-true, equal-self, own-bits, kind-switch, kind-value, kind-dead}
+use Rattle.shortest.proofs.Laws.{equal-true, equal-self, kind-switch, kind-value, kind-dead}
 use Rattle.shortest.proofs.Bridge.{structure-fine, length-word}
 
 -- ---- values held with 131,072 added
@@ -72,42 +75,6 @@ twos-lower w x h = go (ltb x 131072) refl
         let s : m * p + (x - 131072) ≡ x = omega (arith, all) in
         sym (mul-add-mod-self-right m p (x - 131072)) ∙ ap (λ (y : ℕ). y % p) s
 
--- two that are held as one number are one
-lower-one : (x y : ℕ) → lower 131072 x ≡ lower 131072 y → x ≡ y
-unfolding lower
-lower-one x y e = go (ltb x 131072) (ltb y 131072) refl refl e
-  where
-    go : (a b : Bool) → ltb x 131072 ≡ a → ltb y 131072 ≡ b
-        → cond a (negsuc (131072 - suc x)) (pos (x - 131072)) ≡ cond b (negsuc (131072 - suc y)) (pos (y - 131072)) → x ≡ y
-    go true true p q h =
-        let m : 131072 - suc x ≡ 131072 - suc y = cc in
-        omega (arith, ltb-true x 131072 p, ltb-true y 131072 q)
-    go true false p q h = unlike cc
-    go false true p q h = unlike cc
-    go false false p q h =
-        let m : x - 131072 ≡ y - 131072 = cc in
-        omega (arith, ltb-false x 131072 p, ltb-false y 131072 q)
-
--- what so many bits hold
-mag-inside : (w x : ℕ) → 2 ^ w ≤ 131072 → 131072 - 2 ^ w ≤ x → x < 131072 + 2 ^ w → mag (lower 131072 x) < 2 ^ w
-unfolding lower
-mag-inside w x h g l = go (ltb x 131072) refl
-  where
-    go : (b : Bool) → ltb x 131072 ≡ b → mag (cond b (negsuc (131072 - suc x)) (pos (x - 131072))) < 2 ^ w
-    go true e = omega (arith, ltb-true x 131072 e)
-    go false e = omega (arith, ltb-false x 131072 e)
-
-mag-outside : (w x : ℕ) → 2 ^ w ≤ 131072 → (x < 131072 - 2 ^ w) ⊎ (131072 + 2 ^ w ≤ x) → 2 ^ w ≤ mag (lower 131072 x)
-unfolding lower
-mag-outside w x h o = go (ltb x 131072) refl o
-  where
-    go : (b : Bool) → ltb x 131072 ≡ b → (x < 131072 - 2 ^ w) ⊎ (131072 + 2 ^ w ≤ x)
-        → 2 ^ w ≤ mag (cond b (negsuc (131072 - suc x)) (pos (x - 131072)))
-    go true e (inl l) = omega (arith, ltb-true x 131072 e)
-    go true e (inr l) = absurd (omega (arith, ltb-true x 131072 e))
-    go false e (inl l) = absurd (omega (arith, ltb-false x 131072 e))
-    go false e (inr l) = omega (arith, ltb-false x 131072 e)
-
 -- the values that a value's structure serves are those from `lowest` up to `beyond`
 serves-inside : (r base x : ℕ) → r ≤ 16 → base < 65536 → lowest base r ≤ x → x < beyond base r → serves r base (lower 131072 x) ≡ true
 unfolding serves holds
@@ -116,7 +83,7 @@ serves-inside zero base x h b g l =
     rw (e, lower-base base b) (equal-self (signed 16 base))
 serves-inside (suc w) base x h b g l =
     let m = pow-mono {i = w} {j = 15} (omega arith) in
-    lt-ltb (mag (lower 131072 x)) (2 ^ w) (mag-inside w x (omega arith) g l)
+    lt-ltb (mag (lower 131072 x)) (2 ^ w) (mag-inside 131072 x (2 ^ w) (omega arith) (omega arith))
 
 serves-outside : (r base x : ℕ) → r ≤ 16 → base < 65536 → (x < lowest base r) ⊎ (beyond base r ≤ x) → serves r base (lower 131072 x) ≡ false
 unfolding serves holds
@@ -124,12 +91,12 @@ serves-outside zero base x h b o = go (equal (signed 16 base) (lower 131072 x)) 
   where
     go : (t : Bool) → equal (signed 16 base) (lower 131072 x) ≡ t → t ≡ false
     go true e =
-        let q : lowest base 0 ≡ x = lower-one (lowest base 0) x (lower-base base b ∙ equal-true (signed 16 base) (lower 131072 x) e) in
+        let q : lowest base 0 ≡ x = lower-one 131072 (lowest base 0) x (lower-base base b ∙ equal-true (signed 16 base) (lower 131072 x) e) in
         absurd (⊎-elim (λ l. omega arith) (λ l. omega arith) o)
     go false e = refl
 serves-outside (suc w) base x h b o =
     let m = pow-mono {i = w} {j = 15} (omega arith) in
-    le-ltb (mag (lower 131072 x)) (2 ^ w) (mag-outside w x (omega arith) o)
+    le-ltb (mag (lower 131072 x)) (2 ^ w) (mag-outside 131072 x (2 ^ w) (⊎-elim (λ l. inl (omega arith)) (λ l. inr (omega arith)) o))
 
 -- ---- a right structure's form, its base value of two bytes
 
@@ -310,7 +277,3 @@ module _ (n : ℕ) (tables : List (List Structure)) (right : every (tableRight n
       go : Dec (k ≡ j) → NotAfter (rule tables) v t j k
       go (yes e) = inl e
       go (no d) = inr (differ-before (λ e. d (sym e)) h)
-
-  pub rank-before : rankOf (formOf (structureOf tables t j)) < rankOf (formOf (structureOf tables t k))
-      → Before (wordOf (structureOf tables t j) v) (wordOf (structureOf tables t k) v)
-  rank-before h = differ-before (λ e. absurd (omega (arith, ap (λ (i : ℕ). rankOf (formOf (structureOf tables t i))) e))) (omega arith)

@@ -1,28 +1,24 @@
 -- Two's complement there and back, lists of bits, and what the rule of the search says. Assumes nothing.
-use Prim.Native.Nat.{ℕ, zero, suc, _+_, _-_, _%_, _^_, _<_}
-use mathlib.Core.Path.{_≡_, refl, sym, ap, _∙_}
+use Prim.Native.Nat.{ℕ, zero, suc, _-_, _%_, _^_, _<_}
+use mathlib.Core.Path.{_≡_, refl, ap}
 use mathlib.Core.Bool.{Bool, true, false, cond, _&&_}
-use mathlib.Core.List.{List, [], _∷_, _++_}
+use mathlib.Core.List.{List, [], _∷_}
 use native.Mathlib.Nat.{mod-eq-of-lt, mod-lt}
 use native.Mathlib.Omega.{arith}
 use borrow.Author.Tests.{ltb-true, ltb-false, lt-ltb, le-ltb, eq-eqb, ne-eqb, eqb-true, eqb-false}
 use lib.Dec.{ltb, eqb}
 use lib.IntN.{ℤ, pos, negsuc}
-use lib.ListN.{length}
 use lib.Pow.{pow-pos}
 use lib.Signed.{mag}
-use Rattle.bits.specs.Bits.{highBits, numberOf, signed}
-use Rattle.bits.proofs.Laws.{Small, length-highBits, small-highBits, number-small, number-one, number-high}
+pub use Rattle.wire.proofs.Laws.{unlike}
+use Rattle.bits.specs.Bits.{signed}
+use Rattle.bits.proofs.Laws.{Small}
 use Rattle.tables.specs.declared.Structure.{Structure}
 use Rattle.tables.specs.Structures.{remainderOf, every}
-use Rattle.reading.specs.Reading.{gave}
+use Rattle.reading.specs.Reading.{gave, readNext}
 use Rattle.paths.specs.InnerPaths.{dead, gives, leads}
-use Rattle.shortest.specs.Shortest.{areBits}
+use Rattle.shortest.specs.Shortest.{areBits, ReadsTo, done, value}
 use Rattle.shortest.specs.InnerRule.{twos, equal, serves, kindOf}
-
--- what cannot be
-pub unlike : {A : Type 0} → _≡_ {A = ℕ} 0 1 → A
-unlike e = absurd (omega arith)
 
 -- ---- two's complement
 
@@ -97,35 +93,6 @@ unfolding areBits every
 small-bits [] h = refl
 small-bits (b ∷ l) h = rw (lt-ltb b 2 (h 0)) (small-bits l (λ i. h (suc i)))
 
--- those behind others
-pub small-behind : (k l : List ℕ) → Small (k ++ l) → Small l
-small-behind [] l h i = h i
-small-behind (b ∷ k) l h i = small-behind k l (λ j. h (suc j)) i
-
--- those before others
-pub small-both : (k l : List ℕ) → Small k → Small l → Small (k ++ l)
-small-both [] l hk hl i = hl i
-small-both (b ∷ k) l hk hl zero = hk 0
-small-both (b ∷ k) l hk hl (suc i) = small-both k l (λ j. hk (suc j)) hl i
-
--- w bits are those of their number
-pub own-bits : (l : List ℕ) (w : ℕ) → Small l → length l ≡ w → highBits w (numberOf l) ≡ l
-own-bits l w h e =
-    let x = numberOf l in
-    let small : x < 2 ^ w = rw e at (number-small l h) in
-    number-one (highBits w x) l (small-highBits w x) h (length-highBits w x ∙ sym e) (number-high w x small)
-
--- ---- what was read
-
-pub gave-value : {a b : ℤ} {i j : ℕ} {l m : List ℕ} → gave a i l ≡ gave b j m → a ≡ b
-gave-value e = cc
-
-pub gave-table : {a b : ℤ} {i j : ℕ} {l m : List ℕ} → gave a i l ≡ gave b j m → i ≡ j
-gave-table e = cc
-
-pub gave-rest : {a b : ℤ} {i j : ℕ} {l m : List ℕ} → gave a i l ≡ gave b j m → l ≡ m
-gave-rest e = cc
-
 -- ---- what a structure does
 
 -- by its mode
@@ -160,3 +127,25 @@ gives-value c v e = go (eqb (c .mode) 0) refl (serves (remainderOf c) (c .base) 
     go true q b p h = unlike cc
     go false q true p h = (eqb-false (c .mode) 0 q, p)
     go false q false p h = unlike cc
+
+-- ---- what a stream reads to
+
+-- one for no value is empty
+pub reads-none : {tables : List (List Structure)} {t : ℕ} {bs : List ℕ} {vs : List ℤ} → ReadsTo tables t bs vs → vs ≡ [] → bs ≡ []
+reads-none done e = refl
+reads-none (value h r) e = unlike cc
+
+-- one for a value and others gives that value first
+pub record First (tables : List (List Structure)) (t : ℕ) (bs : List ℕ) (v : ℤ) (vs : List ℤ) : Type 0 where
+  pub next : ℕ
+  pub rest : List ℕ
+  pub gives : readNext tables t bs ≡ gave v next rest
+  pub later : ReadsTo tables next rest vs
+
+pub reads-first : {tables : List (List Structure)} {t : ℕ} {bs : List ℕ} {ws : List ℤ} (v : ℤ) (vs : List ℤ) → ReadsTo tables t bs ws
+    → ws ≡ v ∷ vs → First tables t bs v vs
+reads-first v vs done e = unlike cc
+reads-first {tables = tables} v vs (value {table = t} {next = next} {bs = bs} {rest = rest} {v = w} {vs = ws} h r) e =
+    let a : w ≡ v = cc in
+    let b : ws ≡ vs = cc in
+    record { next = next; rest = rest; gives = rw a at h; later = rw b at r }

@@ -14,12 +14,14 @@ use lib.ListN.{length, getD, take, drop, length-append, length-drop, take-append
 use lib.Seq.{take-at, drop-at, drop-drop, length-take-le, take-suc}
 use lib.Signed.{mag}
 use Rattle.wire.specs.Numbers.{bytesOf}
+use Rattle.wire.proofs.Laws.{unlike}
 use Rattle.bits.specs.Bits.{highBits, bitsIn, numberOf, signed}
-use Rattle.bits.proofs.Laws.{Small, length-highBits, bitsIn-append, small-take, small-drop, small-bitsIn, number-small, number-high}
+use Rattle.bits.proofs.Laws.{Small, length-highBits, bitsIn-append, small-behind, small-take, small-drop, small-bitsIn, number-small, number-high, own-bits}
 use Rattle.reading.specs.Reading.{gave, stuck, readPlain, readNext}
+use Rattle.reading.proofs.Laws.{gave-value, gave-table, gave-rest}
 use Rattle.shortest.specs.Shortest.{ReadsTo, done, value, Shortest, NoStream}
 use Rattle.shortest.specs.InnerRule.{twos, plainBytes, plainBits}
-use Rattle.shortest.proofs.Laws.{unlike, twos-small, signed-twos, twos-signed, bits-small, small-bits, small-behind, own-bits, gave-value, gave-table, gave-rest}
+use Rattle.shortest.proofs.Laws.{twos-small, signed-twos, twos-signed, bits-small, small-bits}
 
 -- ---- one value
 

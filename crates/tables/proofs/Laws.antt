@@ -1,7 +1,7 @@
 -- What the proofs of this crate and of those above it cite. Assumes nothing.
 use Prim.Native.Nat.{ℕ, zero, suc, _+_, _-_, _*_, _/_, _%_, _^_, _≤_, _<_}
-use mathlib.Core.Path.{_≡_, refl, sym, ap, _∙_}
-use mathlib.Core.Bool.{Bool, true, false, not, _&&_, cond, and-false}
+use mathlib.Core.Path.{_≡_, refl, sym, ap}
+use mathlib.Core.Bool.{Bool, true, false, not, _&&_, cond, and-false, and-eq-true-iff}
 use mathlib.Core.List.{List, [], _∷_}
 use mathlib.Core.Logic.{_⊎_, inl, inr, ⊎-elim}
 use native.Mathlib.Omega.{arith}
@@ -9,16 +9,11 @@ use lib.Dec.{leb, ltb, eqb}
 use lib.ListN.{length, getD}
 use borrow.Author.Tests.{leb-true, ltb-true, eqb-true, eqb-false, eq-eqb, ne-eqb}
 use Rattle.wire.specs.Numbers.{numberAt}
+use Rattle.wire.proofs.Laws.{unlike}
 use Rattle.bits.specs.Bits.{lowBits, begins}
 use Rattle.tables.specs.declared.Structure.{Structure}
 use Rattle.tables.specs.Structures.{noStructure, structureAt, structuresAt, remainderOf, modeRight, structureRight, apart, every, prefixFree}
-use Rattle.wire.specs.Rules.{endsBy}
 use Rattle.tables.specs.Section2.{isDefault, tableCount, tableAt, afterTable, tablesFrom, afterTables, tableRight, section2Right}
-
--- both parts of a rule hold where it holds
-both : (a b : Bool) → a && b ≡ true → (a ≡ true) × (b ≡ true)
-both true b h = (refl, h)
-both false b h = let z : _≡_ {A = ℕ} 0 1 = cc in absurd (omega arith)
 
 -- the part that a test picks holds where the rule holds
 either : (t a b : Bool) → cond t a b ≡ true → ((t ≡ true) × (a ≡ true)) ⊎ ((t ≡ false) × (b ≡ true))
@@ -47,8 +42,8 @@ module _ {A : Type 0} (rule : A → Bool) where
   pub every-at : (d : A) (xs : List A) → every rule xs ≡ true → (k : ℕ) → k < length xs → rule (getD xs k d) ≡ true
   unfolding every
   every-at d [] h k g = absurd (omega arith)
-  every-at d (x ∷ xs) h zero g = both (rule x) (every rule xs) h .0
-  every-at d (x ∷ xs) h (suc k) g = every-at d xs (both (rule x) (every rule xs) h .1) k (omega arith)
+  every-at d (x ∷ xs) h zero g = and-eq-true-iff (rule x) _ .0 h .0
+  every-at d (x ∷ xs) h (suc k) g = every-at d xs (and-eq-true-iff (rule x) _ .0 h .1) k (omega arith)
 
 -- ---- structures and tables one after another
 
@@ -86,6 +81,12 @@ tables-cons s o n h = let e : n ≡ suc (n - 1) = omega arith in ap (tablesFrom 
 pub tables-none : (s : List ℕ) (o n : ℕ) → n ≤ 0 → tablesFrom s o n ≡ []
 unfolding tablesFrom
 tables-none s o n h = let e : n ≡ 0 = omega arith in ap (tablesFrom s o) e
+
+-- n tables are n
+pub length-tables : (s : List ℕ) (o n : ℕ) → length (tablesFrom s o n) ≡ n
+unfolding tablesFrom
+length-tables s o zero = refl
+length-tables s o (suc n) = ap suc (length-tables s (afterTable s o) n)
 
 -- the place after the tables is that after the others
 pub after-more : (s : List ℕ) (o n : ℕ) → 0 < n → afterTables s o n ≡ afterTables s (afterTable s o) (n - 1)
@@ -137,8 +138,8 @@ pub free-at : (cs : List Structure) → prefixFree cs ≡ true → (j k : ℕ) �
 unfolding prefixFree
 free-at [] h j k g l = absurd (omega arith)
 free-at (c ∷ cs) h j zero g l = absurd (omega arith)
-free-at (c ∷ cs) h zero (suc k) g l = every-at (apart c) noStructure cs (both (every (apart c) cs) (prefixFree cs) h .0) k (omega arith)
-free-at (c ∷ cs) h (suc j) (suc k) g l = free-at cs (both (every (apart c) cs) (prefixFree cs) h .1) j k (omega arith) (omega arith)
+free-at (c ∷ cs) h zero (suc k) g l = every-at (apart c) noStructure cs (and-eq-true-iff (every (apart c) cs) _ .0 h .0) k (omega arith)
+free-at (c ∷ cs) h (suc j) (suc k) g l = free-at cs (and-eq-true-iff (every (apart c) cs) _ .0 h .1) j k (omega arith) (omega arith)
 
 -- ---- what the rules say
 
@@ -155,8 +156,8 @@ pub record Fine (tables : ℕ) (c : Structure) : Type 0 where
 switch-fine : (tables : ℕ) (c : Structure) → eqb (c .whole) (c .prefix) && (leb 1 (c .base) && leb (c .base) tables) ≡ true
     → (c .whole ≡ c .prefix) × (1 ≤ c .base) × (c .base ≤ tables)
 switch-fine tables c h =
-    let p = both (eqb (c .whole) (c .prefix)) (leb 1 (c .base) && leb (c .base) tables) h in
-    let q = both (leb 1 (c .base)) (leb (c .base) tables) (p .1) in
+    let p = and-eq-true-iff (eqb (c .whole) (c .prefix)) _ .0 h in
+    let q = and-eq-true-iff (leb 1 (c .base)) _ .0 (p .1) in
     omega (arith, eqb-true, leb-true)
 
 mode-fine : (tables : ℕ) (c : Structure) → modeRight tables c ≡ true
@@ -166,22 +167,17 @@ mode-fine tables c h =
     ⊎-elim
     (λ w. (omega (arith, eqb-true), λ z. switch-fine tables c (w .1)))
     (λ w. (omega (arith, eqb-true), λ z. absurd (eqb-false (c .mode) 0 (w .0) z)))
-    (either (eqb (c .mode) 0) (eqb (c .whole) (c .prefix) && (leb 1 (c .base) && leb (c .base) tables)) (eqb (c .mode) 1) h)
+    (either (eqb (c .mode) 0) _ _ h)
 
 -- a structure that keeps its rule
 pub fine : (tables : ℕ) (c : Structure) → structureRight tables c ≡ true → Fine tables c
 unfolding structureRight
 fine tables c h =
-    let most = leb (c .prefix) 32 in
-    let least = leb (c .prefix) (c .whole) in
-    let rest = leb (remainderOf c) 16 in
-    let below = ltb (c .code) (2 ^ (c .prefix)) in
-    let mode = modeRight tables c in
-    let h1 = both (leb 1 (c .prefix)) (most && (least && (rest && (below && mode)))) h in
-    let h2 = both most (least && (rest && (below && mode))) (h1 .1) in
-    let h3 = both least (rest && (below && mode)) (h2 .1) in
-    let h4 = both rest (below && mode) (h3 .1) in
-    let h5 = both below mode (h4 .1) in
+    let h1 = and-eq-true-iff (leb 1 (c .prefix)) _ .0 h in
+    let h2 = and-eq-true-iff (leb (c .prefix) 32) _ .0 (h1 .1) in
+    let h3 = and-eq-true-iff (leb (c .prefix) (c .whole)) _ .0 (h2 .1) in
+    let h4 = and-eq-true-iff (leb (remainderOf c) 16) _ .0 (h3 .1) in
+    let h5 = and-eq-true-iff (ltb (c .code) (2 ^ (c .prefix))) _ .0 (h4 .1) in
     let m = mode-fine tables c (h5 .1) in
     record {
       some = leb-true 1 (c .prefix) (h1 .0);
@@ -204,12 +200,15 @@ pub record RightTable (tables : ℕ) (cs : List Structure) : Type 0 where
 pub table-right : (tables : ℕ) (cs : List Structure) → tableRight tables cs ≡ true → RightTable tables cs
 unfolding tableRight
 table-right tables cs h =
-    let right = every (structureRight tables) cs in
-    let free = prefixFree cs in
-    let p = both (leb 1 (length cs)) (leb (length cs) 64 && (right && free)) h in
-    let q = both (leb (length cs) 64) (right && free) (p .1) in
-    let r = both right free (q .1) in
+    let p = and-eq-true-iff (leb 1 (length cs)) _ .0 h in
+    let q = and-eq-true-iff (leb (length cs) 64) _ .0 (p .1) in
+    let r = and-eq-true-iff (every (structureRight tables) cs) _ .0 (q .1) in
     record { some = leb-true 1 (length cs) (p .0); most = leb-true (length cs) 64 (q .0); right = r .0; free = r .1 }
+
+-- each of right tables
+pub right-at : (n : ℕ) (tables : List (List Structure)) → every (tableRight n) tables ≡ true
+    → (t : ℕ) → t < length tables → RightTable n (getD tables t [])
+right-at n tables right t h = table-right n (getD tables t []) (every-at (tableRight n) [] tables right t h)
 
 -- a right table takes at most 578 bytes
 pub after-right : (tables : ℕ) (s : List ℕ) (o : ℕ) → tableRight tables (tableAt s o) ≡ true → afterTable s o ≤ o + 578
@@ -225,24 +224,20 @@ pub record RightTables (s : List ℕ) (at : ℕ) : Type 0 where
   pub most : tableCount s at ≤ 8
   pub right : every (tableRight (tableCount s at)) (tablesFrom s (at + 2) (tableCount s at)) ≡ true
 
-abbrev ownRight : ℕ → List ℕ → ℕ → ℕ → Bool
-ownRight spare s at n =
-    leb 1 n && (leb n 8 && (every (tableRight n) (tablesFrom s (at + 2) n) && endsBy spare s (afterTables s (at + 2) n)))
-
-own-right : (spare : ℕ) (s : List ℕ) (at : ℕ) → isDefault s at ≡ false → ownRight spare s at (tableCount s at) ≡ true → RightTables s at
-own-right spare s at e h =
-    let n = tableCount s at in
-    let right = every (tableRight n) (tablesFrom s (at + 2) n) in
-    let ends = endsBy spare s (afterTables s (at + 2) n) in
-    let p = both (leb 1 n) (leb n 8 && (right && ends)) h in
-    let q = both (leb n 8) (right && ends) (p .1) in
-    record { own = e; some = leb-true 1 n (p .0); most = leb-true n 8 (q .0); right = both right ends (q .1) .0 }
-
 -- data that keep their rule have the default table, or tables of their own by that rule
 pub section2-right : (spare : ℕ) (s : List ℕ) (at : ℕ) → section2Right spare s at ≡ true → (isDefault s at ≡ true) ⊎ RightTables s at
 unfolding section2Right
 section2-right spare s at h =
     ⊎-elim
     (λ w. inl (w .0))
-    (λ w. inr (own-right spare s at (w .0) (w .1)))
-    (either (isDefault s at) (endsBy spare s (at + 2)) (ownRight spare s at (tableCount s at)) h)
+    (λ w.
+    let n = tableCount s at in
+    let p = and-eq-true-iff (leb 1 n) _ .0 (w .1) in
+    let q = and-eq-true-iff (leb n 8) _ .0 (p .1) in
+    let r = and-eq-true-iff (every (tableRight n) (tablesFrom s (at + 2) n)) _ .0 (q .1) in
+    inr (record { own = w .0; some = leb-true 1 n (p .0); most = leb-true n 8 (q .0); right = r .0 }))
+    (either (isDefault s at) _ _ h)
+
+-- those that do not have the default table have tables of their own
+pub own-tables : (spare : ℕ) (s : List ℕ) (at : ℕ) → section2Right spare s at ≡ true → isDefault s at ≡ false → RightTables s at
+own-tables spare s at h e = ⊎-elim (λ d. unlike cc) (λ r. r) (section2-right spare s at h)

@@ -1,7 +1,7 @@
 -- What a job that the writer accepts says, and the streams found for its leads. Assumes nothing.
 use Prim.Native.Nat.{ℕ, zero, suc, _+_, _≤_, _<_}
 use mathlib.Core.Path.{_≡_, refl, ap}
-use mathlib.Core.Bool.{true, not, _&&_, and-eq-true-iff}
+use mathlib.Core.Bool.{Bool, true, false, not, _||_, cond, and-eq-true-iff}
 use mathlib.Core.List.{List, [], _∷_}
 use mathlib.Core.Option.{Option, none, some}
 use native.Mathlib.Omega.{arith}
@@ -10,14 +10,17 @@ use lib.Dec.{leb, eqb}
 use lib.IntN.{ℤ}
 use lib.ListN.{length, getD, take, drop, length-take, length-drop}
 use Rattle.wire.specs.Rules.{allIn}
-use Rattle.wire.proofs.Laws.{all-at}
+use Rattle.wire.proofs.Laws.{all-at, unlike}
 use Rattle.tables.specs.Structures.{every}
+use Rattle.tables.specs.Default.{defaultTable}
+use Rattle.tables.specs.Section2.{isDefault, tableCount, tablesFrom, tablesIn, tableRight, section2Right}
+use Rattle.tables.proofs.Laws.{length-tables, own-tables}
+use Rattle.tables.proofs.Default.{default-right}
 use Rattle.samples.specs.Differences.{differences}
 use Rattle.samples.specs.Trace.{fits16}
 use Rattle.packing.specs.Packing.{packed}
-use Rattle.shortest.specs.Shortest.{Shortest}
-use Rattle.shortest.proofs.Laws.{unlike}
-use Rattle.encode.specs.Encoding.{tablesGiven}
+use Rattle.shortest.specs.Shortest.{Stream}
+use Rattle.encode.specs.Encoding.{tablesGiven, givenRight}
 use Rattle.compose.specs.Writing.{Job, total, leadAsked, jobRight, cut, FoundAll, done, lead, behind, streamsOf}
 use Rattle.trip.proofs.Entries.{Asked}
 
@@ -39,9 +42,9 @@ unfolding leadAsked
 lead-asked firsts counts k h =
     let c = getD counts k 0 in
     let f = getD firsts k 0 in
-    let p = and-eq-true-iff (leb 1 c) (leb c 65536 && (leb 1 f && leb (f + c) 4294967296)) .0 h in
-    let q = and-eq-true-iff (leb c 65536) (leb 1 f && leb (f + c) 4294967296) .0 (p .1) in
-    let w = and-eq-true-iff (leb 1 f) (leb (f + c) 4294967296) .0 (q .1) in
+    let p = and-eq-true-iff (leb 1 c) _ .0 h in
+    let q = and-eq-true-iff (leb c 65536) _ .0 (p .1) in
+    let w = and-eq-true-iff (leb 1 f) _ .0 (q .1) in
     record {
       some = leb-true 1 c (p .0);
       most = leb-true c 65536 (q .0);
@@ -53,22 +56,14 @@ pub job-right : (j : Job) → jobRight j ≡ true → Right j
 unfolding jobRight
 job-right j h =
     let n = length (j .counts) in
-    let b2 = leb n 32 in
-    let b3 = eqb (length (j .firsts)) n in
-    let b4 = eqb (length (j .ids)) n in
-    let b5 = allIn 0 n (leadAsked (j .firsts) (j .counts)) in
-    let b6 = leb (j .order) 2 in
-    let b7 = not (eqb (j .step) 0) in
-    let b8 = not (eqb (j .interval) 0) in
-    let b9 = eqb (total (j .counts)) (length (j .samples)) in
-    let h1 = and-eq-true-iff (leb 1 n) (b2 && (b3 && (b4 && (b5 && (b6 && (b7 && (b8 && b9))))))) .0 h in
-    let h2 = and-eq-true-iff b2 (b3 && (b4 && (b5 && (b6 && (b7 && (b8 && b9)))))) .0 (h1 .1) in
-    let h3 = and-eq-true-iff b3 (b4 && (b5 && (b6 && (b7 && (b8 && b9))))) .0 (h2 .1) in
-    let h4 = and-eq-true-iff b4 (b5 && (b6 && (b7 && (b8 && b9)))) .0 (h3 .1) in
-    let h5 = and-eq-true-iff b5 (b6 && (b7 && (b8 && b9))) .0 (h4 .1) in
-    let h6 = and-eq-true-iff b6 (b7 && (b8 && b9)) .0 (h5 .1) in
-    let h7 = and-eq-true-iff b7 (b8 && b9) .0 (h6 .1) in
-    let h8 = and-eq-true-iff b8 b9 .0 (h7 .1) in
+    let h1 = and-eq-true-iff (leb 1 n) _ .0 h in
+    let h2 = and-eq-true-iff (leb n 32) _ .0 (h1 .1) in
+    let h3 = and-eq-true-iff (eqb (length (j .firsts)) n) _ .0 (h2 .1) in
+    let h4 = and-eq-true-iff (eqb (length (j .ids)) n) _ .0 (h3 .1) in
+    let h5 = and-eq-true-iff (allIn 0 n (leadAsked (j .firsts) (j .counts))) _ .0 (h4 .1) in
+    let h6 = and-eq-true-iff (leb (j .order) 2) _ .0 (h5 .1) in
+    let h7 = and-eq-true-iff (not (eqb (j .step) 0)) _ .0 (h6 .1) in
+    let h8 = and-eq-true-iff (not (eqb (j .interval) 0)) _ .0 (h7 .1) in
     record {
       some = leb-true 1 n (h1 .0);
       most = leb-true n 32 (h2 .0);
@@ -81,6 +76,23 @@ job-right j h =
       interval = eqb-false (j .interval) 0 (not-true (eqb (j .interval) 0) (h8 .0));
       total = eqb-true (total (j .counts)) (length (j .samples)) (h8 .1);
     }
+
+-- ---- rule 7
+
+-- given tables are right
+pub given-right : (s : List ℕ) → givenRight s ≡ true → every (tableRight (length (tablesGiven s))) (tablesGiven s) ≡ true
+unfolding givenRight tablesGiven tablesIn every
+given-right s g = go (eqb (length s) 0) g
+  where
+    own : (b : Bool) → section2Right 0 s 0 ≡ true → isDefault s 0 ≡ b
+        → every (tableRight (length (cond b (defaultTable ∷ []) (tablesFrom s 2 (tableCount s 0)))))
+        (cond b (defaultTable ∷ []) (tablesFrom s 2 (tableCount s 0))) ≡ true
+    own true g e = rw default-right
+    own false g e = rw (length-tables s 2 (tableCount s 0)) (own-tables 0 s 0 g e .right)
+
+    go : (b : Bool) → b || section2Right 0 s 0 ≡ true → every (tableRight (length (cond b [] (tablesIn s 0)))) (cond b [] (tablesIn s 0)) ≡ true
+    go true g = refl
+    go false g = own (isDefault s 0) g refl
 
 -- ---- the samples of the leads
 
@@ -147,7 +159,7 @@ found-length s2 order streams (lead {found = some bs} {founds = founds} f all) h
 -- what stands in the record for lead k
 pub record Lead (s2 : List ℕ) (order : ℕ) (xs : List ℤ) (stream : List ℕ) : Type 0 where
   pub bits : List ℕ
-  pub shortest : Shortest (tablesGiven s2) (differences order xs) bits
+  pub reads : Stream (tablesGiven s2) (differences order xs) bits
   pub bytes : stream ≡ packed bits
 
 pub found-at : (s2 : List ℕ) (order : ℕ) {xss : List (List ℤ)} {founds : List (Option (List ℕ))} (streams : List (List ℕ))
@@ -158,7 +170,7 @@ found-at s2 order streams done h k l = absurd (omega arith)
 found-at s2 order streams (lead {found = none} f all) h k l = unlike cc
 found-at s2 order streams (lead {xs = xs} {found = some bs} {founds = founds} f all) h zero l =
     let c = streams-cons bs founds streams h in
-    record { bits = bs; shortest = f; bytes = ap (λ (ss : List (List ℕ)). getD ss 0 []) (c .split) }
+    record { bits = bs; reads = f .stream; bytes = ap (λ (ss : List (List ℕ)). getD ss 0 []) (c .split) }
 found-at s2 order streams (lead {xss = xss} {found = some bs} {founds = founds} f all) h (suc k) l =
     let c = streams-cons bs founds streams h in
     rw (c .split) (found-at s2 order (c .others) all (c .rest) k (omega arith))

@@ -7,14 +7,15 @@ use native.Mathlib.Nat.{zero-add, add-zero}
 use native.Mathlib.Omega.{arith}
 use borrow.Author.Tests.{eqb-true, ltb-true, lt-ltb}
 use lib.Dec.{ltb, eqb}
-use lib.ListN.{length, getD, length-append}
+use lib.ListN.{length, getD}
 use Rattle.wire.specs.Numbers.{numberAt, bytesOf}
 use Rattle.wire.proofs.Laws.{length-bytesOf}
 use Rattle.pointers.specs.Pointers.{countOf, idOf, lengthOf, indexOf}
 use Rattle.tables.specs.Structures.{every}
 use Rattle.layout.specs.Layout.{sizeFor, givenSize, checked, sectionBytes, letters, noLetters, pointerBytes, absent, pointersData, givenSection, recordSize, recordBytes}
-use Rattle.trip.proofs.Places.{Stands, stands-inner, stands-first, stands-behind, stands-whole, stands-at, stands-written}
-use Rattle.trip.proofs.Sections.{length-checked, checked-body, headOf, section-headed, length-head, length-section, section-size, headed-data}
+use Rattle.wire.proofs.Places.{Stands, stands-inner, stands-first, stands-behind, stands-whole, stands-at, stands-written}
+use Rattle.layout.proofs.Laws.{length-pointerBytes, length-pointersData, length-sectionBytes, length-givenSection, length-recordBytes}
+use Rattle.trip.proofs.Sections.{checked-body, headOf, section-headed, length-head, section-size, headed-holds}
 
 -- ---- pointers one behind another
 
@@ -24,10 +25,6 @@ rowsFrom k [] is = []
 rowsFrom k (s ∷ ss) [] = []
 rowsFrom k (s ∷ ss) (i ∷ is) = pointerBytes k s i ++ rowsFrom (suc k) ss is
 
-length-pointer : (k s i : ℕ) → length (pointerBytes k s i) ≡ 10
-unfolding pointerBytes bytesOf
-length-pointer k s i = refl
-
 row-stands : (ss is : List ℕ) (k j : ℕ) → j < length ss → length is ≡ length ss
     → Stands (rowsFrom k ss is) (10 * j) (pointerBytes (k + j) (getD ss j 0) (getD is j 0))
 unfolding rowsFrom
@@ -36,7 +33,7 @@ row-stands (s ∷ ss) [] k j h e = absurd (omega arith)
 row-stands (s ∷ ss) (i ∷ is) k zero h e = rw (add-zero k) (stands-first (pointerBytes k s i) (rowsFrom (suc k) ss is))
 row-stands (s ∷ ss) (i ∷ is) k (suc j) h e =
     let a : suc k + j ≡ k + suc j = omega arith in
-    let b : length (pointerBytes k s i) + 10 * j ≡ 10 * suc j = omega (arith, length-pointer k s i) in
+    let b : length (pointerBytes k s i) + 10 * j ≡ 10 * suc j = omega (arith, length-pointerBytes k s i) in
     let later = rw a at (row-stands ss is (suc k) j (omega arith) (omega arith)) in
     stands-at b (stands-behind (pointerBytes k s i) (rowsFrom (suc k) ss is) later)
 
@@ -72,17 +69,6 @@ given-pointer z1 z2 = go (eqb z2 0) refl
 pointer-rows : (z1 z2 z3 z6 : ℕ) → pointersData z1 z2 z3 z6 ≡ rowsFrom 0 (sizes z1 z2 z3 z6) (indexes z1 z2 z3 z6)
 unfolding pointersData rowsFrom
 pointer-rows z1 z2 z3 z6 = rw (given-pointer z1 z2, append-nil (pointerBytes 11 0 0))
-
-length-rows : (ss is : List ℕ) (k : ℕ) → length is ≡ length ss → length (rowsFrom k ss is) ≡ 10 * length ss
-unfolding rowsFrom
-length-rows [] is k e = refl
-length-rows (s ∷ ss) [] k e = absurd (omega arith)
-length-rows (s ∷ ss) (i ∷ is) k e =
-    length-append (pointerBytes k s i) (rowsFrom (suc k) ss is)
-    ∙ rw (length-pointer k s i, length-rows ss is (suc k) (omega arith)) (omega arith)
-
-pub length-pointers : (z1 z2 z3 z6 : ℕ) → length (pointersData z1 z2 z3 z6) ≡ 120
-length-pointers z1 z2 z3 z6 = rw (pointer-rows z1 z2 z3 z6) (length-rows (sizes z1 z2 z3 z6) (indexes z1 z2 z3 z6) 0 refl)
 
 -- ---- the record
 
@@ -138,29 +124,7 @@ module _ (v : ℕ) (d1 d2 d3 d6 : List ℕ) where
   record-checked = refl
 
   length-section0 : length section0 ≡ 136
-  length-section0 = length-section 0 v letters pointers refl ∙ rw (length-pointers z1 z2 z3 z6)
-
-  length-given : length (givenSection v d2) ≡ z2
-  unfolding givenSection
-  length-given = go (eqb (length d2) 0)
-    where
-      go : (b : Bool) → length (cond b [] (sectionBytes 2 v noLetters d2)) ≡ cond b 0 (sizeFor (length d2))
-      go true = refl
-      go false = length-section 2 v noLetters d2 refl
-
-  pub length-record : length r ≡ 142 + z1 + z2 + z3 + z6
-  length-record =
-      rw record-checked
-      (length-checked recordBody
-      ∙ simp (
-        length-append,
-        length-bytesOf,
-        length-section0,
-        length-given,
-        length-section 1 v noLetters d1 refl,
-        length-section 3 v noLetters d3 refl,
-        length-section 6 v noLetters d6 refl,
-      ) (omega arith))
+  length-section0 = length-sectionBytes 0 v letters pointers refl ∙ rw (length-pointersData z1 z2 z3 z6)
 
   -- where the parts stand
   body-there : Stands r 2 recordBody
@@ -186,7 +150,7 @@ module _ (v : ℕ) (d1 d2 d3 d6 : List ℕ) where
 
   from2 : Stands r (142 + z1) behind1
   from2 =
-      let e : 142 + (length section1 + 0) ≡ 142 + z1 = omega (arith, length-section 1 v noLetters d1 refl) in
+      let e : 142 + (length section1 + 0) ≡ 142 + z1 = omega (arith, length-sectionBytes 1 v noLetters d1 refl) in
       stands-at e (stands-inner from1 (stands-behind section1 behind1 (stands-whole behind1)))
 
   pub section2-there : Stands r (142 + z1) (givenSection v d2)
@@ -195,7 +159,7 @@ module _ (v : ℕ) (d1 d2 d3 d6 : List ℕ) where
   from3 : Stands r (142 + z1 + z2) (section3 ++ section6)
   from3 =
       let l = section3 ++ section6 in
-      let e : 142 + z1 + (length (givenSection v d2) + 0) ≡ 142 + z1 + z2 = omega (arith, length-given) in
+      let e : 142 + z1 + (length (givenSection v d2) + 0) ≡ 142 + z1 + z2 = omega (arith, length-givenSection v d2) in
       stands-at e (stands-inner from2 (stands-behind (givenSection v d2) l (stands-whole l)))
 
   pub section3-there : Stands r (142 + z1 + z2) section3
@@ -203,14 +167,14 @@ module _ (v : ℕ) (d1 d2 d3 d6 : List ℕ) where
 
   pub section6-there : Stands r (142 + z1 + z2 + z3) section6
   section6-there =
-      let e : 142 + z1 + z2 + (length section3 + 0) ≡ 142 + z1 + z2 + z3 = omega (arith, length-section 3 v noLetters d3 refl) in
+      let e : 142 + z1 + z2 + (length section3 + 0) ≡ 142 + z1 + z2 + z3 = omega (arith, length-sectionBytes 3 v noLetters d3 refl) in
       stands-at e (stands-inner from3 (stands-behind section3 section6 (stands-whole section6)))
 
   -- what the pointers say, in a record within its bound
   module _ (small : length (recordBytes v d1 d2 d3 d6) ≤ 1048576) where
     pointers-there : Stands r 22 pointers
     pointers-there =
-        let inner = headed-data (headOf 0 v letters pointers) (length-head 0 v letters pointers refl) pointers in
+        let inner = headed-holds (headOf 0 v letters pointers) (length-head 0 v letters pointers refl) pointers .stands in
         stands-inner section0-there (rw (← section-headed 0 v letters pointers) at inner)
 
     abbrev sizeAt : ℕ → ℕ
@@ -227,7 +191,7 @@ module _ (v : ℕ) (d1 d2 d3 d6 : List ℕ) where
 
     -- its numbers have room
     bounds : (z1 < 1048576) × (z2 < 1048576) × (z3 < 1048576) × (z6 < 1048576) × (z1 + z2 + z3 < 1048576)
-    bounds = omega (arith, length-record, small)
+    bounds = omega (arith, length-recordBytes v d1 d2 d3 d6, small)
 
     room : (n : ℕ) → n < 4294967296 → ltb n 4294967296 ≡ true
     room n h = lt-ltb n 4294967296 h
@@ -282,7 +246,7 @@ module _ (v : ℕ) (d1 d2 d3 d6 : List ℕ) where
     -- Section 0's length, and how many pointers it has
     pub section0-length : numberAt 4 r 10 ≡ 136
     section0-length =
-        let e : sizeFor (length pointers) ≡ 136 = rw (length-pointers z1 z2 z3 z6) in
+        let e : sizeFor (length pointers) ≡ 136 = rw (length-pointersData z1 z2 z3 z6) in
         let s = rw e at (section-size 0 v letters pointers) in
         stands-written 4 136 (omega arith) (stands-inner section0-there s)
 

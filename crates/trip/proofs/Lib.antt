@@ -1,9 +1,4 @@
-pub mod Wire
-pub mod Header
-pub mod Reading
 pub mod Traces
-pub mod Tables
-pub mod Places
 pub mod Sections
 pub mod Entries
 pub mod Streams

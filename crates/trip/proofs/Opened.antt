@@ -10,18 +10,19 @@ use lib.Dec.{eqb}
 use lib.ListN.{length, getD}
 use Rattle.wire.specs.Numbers.{numberAt}
 use Rattle.wire.specs.Rules.{each, allIn}
+use Rattle.wire.proofs.Laws.{all-all}
 use Rattle.header.specs.Header.{section1Right}
+use Rattle.header.proofs.Moved.{section1-moved}
 use Rattle.pointers.specs.Pointers.{idOf, lengthOf, indexOf, endOf}
 use Rattle.record.specs.Rules.{lengthRight, holdsCheck, recordCheckRight, lettersRight, idRight, ownPointerRight, section0Right, placedRight, allPlacedRight, sectionCheckRight, checksRight, fieldsRight}
 use Rattle.record.specs.Opening.{openRefusal}
-use Rattle.layout.specs.Layout.{sizeFor, givenSize, checked, givenSection, letters, noLetters, recordSize, recordBytes}
-use Rattle.trip.proofs.Wire.{all-all}
-use Rattle.trip.proofs.Places.{stands-byte, stands-inner, stands-whole, stands-written}
-use Rattle.trip.proofs.Sections.{check-held, bodyOf, headOf, section-checked, length-head, length-section, section-id, section-reserved}
-use Rattle.trip.proofs.Header.{section1-moved}
+use Rattle.layout.specs.Layout.{sizeFor, givenSize, checked, givenSection, letters, recordSize, recordBytes}
+use Rattle.layout.proofs.Laws.{length-pointersData, length-sectionBytes, length-recordBytes}
+use Rattle.wire.proofs.Places.{stands-byte, stands-inner, stands-whole, stands-written}
+use Rattle.trip.proofs.Sections.{check-held, bodyOf, section-checked, section-id, section-reserved}
 use Rattle.trip.proofs.Frame as F
 use Rattle.trip.proofs.Frame.{sizes, indexes}
-use Rattle.trip.proofs.Placed.{Placed, absent-placed, absent-check, ends-before, placed-present, placed-end, placed-section, placed-right, placed-check}
+use Rattle.trip.proofs.Placed.{Placed, absent-placed, absent-check, ends-before, placed-present, placed-end, placed-holds, placed-right, placed-check}
 
 module _ (v : ℕ) (d1 d2 d3 d6 : List ℕ) (small : length (recordBytes v d1 d2 d3 d6) ≤ 1048576) where
   -- the record, and where its sections start
@@ -91,7 +92,7 @@ module _ (v : ℕ) (d1 d2 d3 d6 : List ℕ) (small : length (recordBytes v d1 d2
   length-kept : lengthRight r ≡ true
   unfolding lengthRight
   length-kept =
-      let e = F.length-record v d1 d2 d3 d6 in
+      let e = length-recordBytes v d1 d2 d3 d6 in
       let size = recordSize (length d1) (length d2) (length d3) (length d6) in
       let there = stands-written 4 size (omega (arith, e, small)) (F.size-there v d1 d2 d3 d6) in
       rw (le-leb 142 (length r) (omega arith), le-leb (length r) 1048576 small, eq-eqb (numberAt 4 r 2) (length r) (there ∙ sym e))
@@ -137,8 +138,8 @@ module _ (v : ℕ) (d1 d2 d3 d6 : List ℕ) (small : length (recordBytes v d1 d2
   section0-kept : section0Right r ≡ true
   unfolding section0Right
   section0-kept =
-      let inside = le-leb 142 (length r) (omega (arith, F.length-record v d1 d2 d3 d6)) in
-      let ids = all-all 0 12 (idRight r) (omega arith) (λ i a b. id-kept i b) in
+      let inside = le-leb 142 (length r) (omega (arith, length-recordBytes v d1 d2 d3 d6)) in
+      let ids = all-all (idRight r) 0 12 (omega arith) (λ i a b. id-kept i b) in
       rw (section0-id, letters-kept, F.count-twelve v d1 d2 d3 d6 small, F.section0-length v d1 d2 d3 d6 small, inside, own-kept, ids)
 
   -- ---- rules 4 to 6
@@ -162,7 +163,7 @@ module _ (v : ℕ) (d1 d2 d3 d6 : List ℕ) (small : length (recordBytes v d1 d2
       go false e = let z : z2 ≡ sizeFor (length d2) = rw e in omega (arith, placed-end (section2-placed e))
 
   rooms : (z1 < 4294967296) × (z2 < 4294967296) × (z3 < 4294967296) × (z6 < 4294967296)
-  rooms = omega (arith, F.length-record v d1 d2 d3 d6, small)
+  rooms = omega (arith, length-recordBytes v d1 d2 d3 d6, small)
 
   -- each section is placed by its rule
   placed1 : placedRight r 1 ≡ true
@@ -234,8 +235,8 @@ module _ (v : ℕ) (d1 d2 d3 d6 : List ℕ) (small : length (recordBytes v d1 d2
   check0 =
       let p = F.pointers v d1 d2 d3 d6 in
       let e = section-checked 0 v letters p in
-      let n : sizeFor (length p) ≡ 136 = rw (F.length-pointers z1 z2 z3 z6) in
-      let l = sym (ap length e) ∙ length-section 0 v letters p refl ∙ n in
+      let n : sizeFor (length p) ≡ 136 = rw (length-pointersData z1 z2 z3 z6) in
+      let l = sym (ap length e) ∙ length-sectionBytes 0 v letters p refl ∙ n in
       rw l at (check-held r 6 (bodyOf 0 v letters p) (rw e at (F.section0-there v d1 d2 d3 d6)))
 
   checks-kept : checksRight r ≡ true
@@ -265,7 +266,7 @@ module _ (v : ℕ) (d1 d2 d3 d6 : List ℕ) (small : length (recordBytes v d1 d2
     fields-kept : fieldsRight r ≡ true
     unfolding fieldsRight
     fields-kept =
-        rw (placed-section section1-placed) (section1-moved (headOf 1 v noLetters d1) (length-head 1 v noLetters d1 refl) d1 right)
+        section1-moved (placed-holds section1-placed .moved) right
 
     -- the record opens
     pub opens-written : openRefusal r ≡ 0

@@ -11,8 +11,9 @@ use Rattle.wire.specs.Rules.{allIn}
 use Rattle.pointers.specs.Pointers.{section0Length, idOf, lengthOf, indexOf, present, startOf, endOf, sectionOf}
 use Rattle.record.specs.Rules.{placeRight, headerRepeats, sectionsApart, placedRight, sectionCheckRight}
 use Rattle.layout.specs.Layout.{evened, sizeFor, sectionBytes, noLetters}
-use Rattle.trip.proofs.Places.{Stands, stands-part, stands-end, stands-inner, stands-written}
-use Rattle.trip.proofs.Sections.{check-held, bodyOf, headOf, section-headed, section-checked, length-section, section-id, section-size}
+use Rattle.wire.proofs.Places.{Stands, stands-part, stands-end, stands-inner, stands-written}
+use Rattle.layout.proofs.Laws.{length-sectionBytes}
+use Rattle.trip.proofs.Sections.{Holds, headed-holds, check-held, bodyOf, headOf, section-headed, section-checked, length-head, section-id, section-size}
 
 -- section k with data d stands from a place on, and its pointer says so
 pub record Placed (r : List ℕ) (k v start : ℕ) (d : List ℕ) : Type 0 where
@@ -48,17 +49,21 @@ module _ {r : List ℕ} {k v start : ℕ} {d : List ℕ} (p : Placed r k v start
   placed-start = omega (arith, p .index)
 
   length-there : length (sectionBytes k v noLetters d) ≡ sizeFor (length d)
-  length-there = length-section k v noLetters d refl
+  length-there = length-sectionBytes k v noLetters d refl
 
   pub placed-end : endOf r k ≡ start + sizeFor (length d)
   placed-end = omega (arith, p .index, p .size)
 
   -- what the reader cuts out
-  pub placed-section : sectionOf r k ≡ headOf k v noLetters d ++ evened d
+  placed-section : sectionOf r k ≡ headOf k v noLetters d ++ evened d
   unfolding sectionOf
   placed-section =
       let e = stands-part (p .there) in
       rw (placed-start, p .size, ← length-there) e ∙ section-headed k v noLetters d
+
+  -- its data there
+  pub placed-holds : Holds (sectionOf r k) d
+  placed-holds = rw placed-section (headed-holds (headOf k v noLetters d) (length-head k v noLetters d refl) d)
 
   -- its place
   placed-place : section0Length r ≡ 136 → placeRight r k ≡ true

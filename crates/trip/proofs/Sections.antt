@@ -11,18 +11,14 @@ use lib.ListN.{length, replicate, length-append, length-replicate}
 use lib.Seq.{getD-append-add}
 use Rattle.wire.specs.Numbers.{byteAt, numberAt, bytesOf, part}
 use Rattle.wire.specs.Check.{crcOf}
-use Rattle.wire.proofs.Laws.{length-bytesOf}
+use Rattle.wire.proofs.Laws.{length-bytesOf, crc-small}
+use Rattle.wire.proofs.Places.{Moved, Stands, stands-part, stands-inner, stands-first, stands-behind, stands-whole, stands-at, stands-written}
 use Rattle.bits.proofs.Windows.{zeros-behind}
 use Rattle.record.specs.Rules.{holdsCheck}
 use Rattle.layout.specs.Layout.{evened, sizeFor, checked, sectionBytes}
-use Rattle.trip.proofs.Wire.{number-moved, number-same, crc-small}
-use Rattle.trip.proofs.Places.{Stands, stands-part, stands-inner, stands-first, stands-behind, stands-whole, stands-at, stands-written}
+use Rattle.layout.proofs.Laws.{length-checked}
 
 -- ---- the check
-
-pub length-checked : (body : List ℕ) → length (checked body) ≡ 2 + length body
-unfolding checked
-length-checked body = length-append (bytesOf 2 (crcOf body)) body ∙ rw (length-bytesOf 2 (crcOf body))
 
 -- what follows the check
 pub checked-body : (body : List ℕ) → Stands (checked body) 2 body
@@ -39,38 +35,37 @@ check-held r start body s =
     let e = rw add-zero at (stands-written 2 (crcOf body) (crc-small body) first) in
     let inner = stands-inner s (checked-body body) in
     let end = start + length (bytesOf 2 (crcOf body) ++ body) in
-    let l : start + length (bytesOf 2 (crcOf body) ++ body) ≡ start + 2 + length body = omega (arith, length-checked body) in
+    let l : end ≡ start + 2 + length body = omega (arith, length-checked body) in
     eq-eqb (numberAt 2 r start) (crcOf (part r (start + 2) end)) (e ∙ rw (l, stands-part inner))
 
 -- ---- data behind a header
-
-pub length-evened : (s : List ℕ) → length (evened s) ≡ length s + length s % 2
-unfolding evened
-length-evened s = length-append s (replicate (length s % 2) 0) ∙ rw (length-replicate {A = ℕ} (length s % 2) 0)
 
 -- the spare byte reads as no byte would
 evened-byte : (s : List ℕ) (i : ℕ) → byteAt (evened s) i ≡ byteAt s i
 unfolding evened
 evened-byte s i = zeros-behind s (length s % 2) i
 
--- a header h of 16 bytes, and data behind it with their spare byte: all that is read behind the header is as in the data alone
-module _ (h : List ℕ) (head : length h ≡ 16) (s : List ℕ) where
-  pub length-headed : length (h ++ evened s) ≡ 16 + length s + length s % 2
-  length-headed = length-append h (evened s) ∙ rw (head, length-evened s) (omega arith)
+-- a section s has data d behind its header: all that is read there is as in the data alone, and the data stand there
+pub record Holds (s d : List ℕ) : Type 0 where
+  pub moved : Moved s 16 d
+  pub stands : Stands s 16 d
 
-  pub headed-byte : (i : ℕ) → byteAt (h ++ evened s) (16 + i) ≡ byteAt s i
-  headed-byte i = ap (λ (n : ℕ). byteAt (h ++ evened s) (n + i)) (sym head) ∙ getD-append-add h (evened s) i 0 ∙ evened-byte s i
-
-  pub headed-number : (w i : ℕ) → numberAt w (h ++ evened s) (16 + i) ≡ numberAt w s i
-  headed-number w i =
-      ap (λ (n : ℕ). numberAt w (h ++ evened s) (n + i)) (sym head)
-      ∙ number-moved w h (evened s) i
-      ∙ number-same w (evened s) s i (evened-byte s)
-
-  -- the data stand there
-  pub headed-data : Stands (h ++ evened s) 16 s
-  unfolding evened
-  headed-data = stands-at (ap (λ (n : ℕ). n + 0) head) (stands-behind h (evened s) (stands-first s (replicate (length s % 2) 0)))
+-- so has a header h of 16 bytes, and data behind it with their spare byte
+pub headed-holds : (h : List ℕ) → length h ≡ 16 → (d : List ℕ) → Holds (h ++ evened d) d
+unfolding evened
+headed-holds h head d =
+    let spare = replicate {A = ℕ} (length d % 2) 0 in
+    let l = length-append h (d ++ spare) in
+    let m = length-append d spare in
+    let n = length-replicate {A = ℕ} (length d % 2) 0 in
+    record {
+      moved = record {
+        byte = λ i. ap (λ (k : ℕ). byteAt (h ++ evened d) (k + i)) (sym head) ∙ getD-append-add h (evened d) i 0 ∙ evened-byte d i;
+        least = omega arith;
+        most = omega arith;
+      };
+      stands = stands-at (ap (λ (k : ℕ). k + 0) head) (stands-behind h (d ++ spare) (stands-first d spare));
+    }
 
 -- ---- the header
 
@@ -94,13 +89,9 @@ module _ (id version : ℕ) (reserved s : List ℕ) where
   unfolding sectionBytes
   section-checked = refl
 
-  module _ (six : length reserved ≡ 6) where
-    pub length-head : length (headOf id version reserved s) ≡ 16
-    unfolding headOf bytesOf
-    length-head = omega arith
-
-    pub length-section : length (sectionBytes id version reserved s) ≡ sizeFor (length s)
-    length-section = rw section-headed (length-headed (headOf id version reserved s) length-head s)
+  pub length-head : length reserved ≡ 6 → length (headOf id version reserved s) ≡ 16
+  unfolding headOf bytesOf
+  length-head six = omega arith
 
   -- the ID and the length stand behind the check
   pub section-id : Stands (sectionBytes id version reserved s) 2 (bytesOf 2 id)

@@ -11,10 +11,11 @@ use Rattle.wire.specs.Numbers.{bytesOf}
 use Rattle.wire.specs.Rules.{endsBy}
 use Rattle.wire.proofs.Laws.{length-bytesOf}
 use Rattle.entries.specs.Streams.{stepOf, intervalOf, orderOf, bimodalOf, streamBytes, bytesBefore, streamStart, streamOf, streamsRight, section6Right}
-use Rattle.layout.specs.Layout.{evened, countsOf, joined, streamsData}
+use Rattle.layout.specs.Layout.{countsOf, joined, streamsData}
+use Rattle.layout.proofs.Laws.{length-countsOf, length-streamsData}
 use Rattle.compose.specs.Writing.{allShort}
-use Rattle.trip.proofs.Places.{Stands, stands-part, stands-byte, stands-inner, stands-first, stands-behind, stands-whole, stands-at, stands-written}
-use Rattle.trip.proofs.Sections.{length-headed, headed-data}
+use Rattle.wire.proofs.Places.{Stands, stands-part, stands-byte, stands-inner, stands-first, stands-behind, stands-whole, stands-at, stands-written}
+use Rattle.trip.proofs.Sections.{Holds}
 
 -- the bytes of the first k streams together
 unfoldable pub before : ℕ → List (List ℕ) → ℕ
@@ -34,11 +35,6 @@ before-all : (streams : List (List ℕ)) → before (length streams) streams ≡
 unfolding before joined
 before-all [] = refl
 before-all (x ∷ streams) = let e = before-all streams in omega (arith, length-append x (joined streams))
-
-length-counts : (streams : List (List ℕ)) → length (countsOf streams) ≡ 2 * length streams
-unfolding countsOf bytesOf
-length-counts [] = refl
-length-counts (x ∷ streams) = let e = length-counts streams in omega arith
 
 count-stands : (streams : List (List ℕ)) (k : ℕ) → k < length streams
     → Stands (countsOf streams) (2 * k) (bytesOf 2 (length (getD streams k [])))
@@ -63,32 +59,30 @@ short-at (x ∷ streams) h zero =
     omega arith
 short-at (x ∷ streams) h (suc k) = short-at streams (and-eq-true-iff (leb (length x) 65535) (allShort streams) .0 h .1) k
 
-module _ (h : List ℕ) (head : length h ≡ 16) (step interval order : ℕ) (streams : List (List ℕ)) (short : allShort streams ≡ true)
-    (small : (step < 65536) × (interval < 65536)) where
-  -- the data and the section
-  abbrev d : List ℕ
-  d = streamsData step interval order streams
+-- a Section 6 that holds them
+pub record Streams (s : List ℕ) (step interval order : ℕ) (streams : List (List ℕ)) : Type 0 where
+  pub holds : Holds s (streamsData step interval order streams)
+  pub short : allShort streams ≡ true
+  pub small : (step < 65536) × (interval < 65536)
 
-  abbrev s : List ℕ
-  s = h ++ evened (streamsData step interval order streams)
-
+module _ {s : List ℕ} {step interval order : ℕ} {streams : List (List ℕ)} (w : Streams s step interval order streams) where
   front-there : Stands s 16 (bytesOf 2 step ++ (bytesOf 2 interval ++ (order ∷ (0 ∷ []))))
   unfolding streamsData bytesOf
   front-there =
       let f = bytesOf 2 step ++ (bytesOf 2 interval ++ (order ∷ (0 ∷ []))) in
-      stands-inner (headed-data h head d) (stands-first f (countsOf streams ++ joined streams))
+      stands-inner (w .holds .stands) (stands-first f (countsOf streams ++ joined streams))
 
   pub streams-step : stepOf s ≡ step
   streams-step =
       let inner = stands-first (bytesOf 2 step) (bytesOf 2 interval ++ (order ∷ (0 ∷ []))) in
-      stands-written 2 step (omega arith) (stands-inner front-there inner)
+      stands-written 2 step (omega (arith, w .small)) (stands-inner front-there inner)
 
   pub streams-interval : intervalOf s ≡ interval
   unfolding bytesOf
   streams-interval =
       let rest = order ∷ (0 ∷ []) in
       let inner = stands-behind (bytesOf 2 step) (bytesOf 2 interval ++ rest) (stands-first (bytesOf 2 interval) rest) in
-      stands-written 2 interval (omega arith) (stands-inner front-there inner)
+      stands-written 2 interval (omega (arith, w .small)) (stands-inner front-there inner)
 
   pub streams-order : orderOf s ≡ order
   unfolding bytesOf
@@ -104,13 +98,13 @@ module _ (h : List ℕ) (head : length h ≡ 16) (step interval order : ℕ) (st
   rest-there =
       let f = bytesOf 2 step ++ (bytesOf 2 interval ++ (order ∷ (0 ∷ []))) in
       let l = countsOf streams ++ joined streams in
-      stands-inner (headed-data h head d) (stands-behind f l (stands-whole l))
+      stands-inner (w .holds .stands) (stands-behind f l (stands-whole l))
 
   streams-bytes : (k : ℕ) → k < length streams → streamBytes s k ≡ length (getD streams k [])
   streams-bytes k there =
       let n = length (getD streams k []) in
       let counts = stands-inner rest-there (stands-first (countsOf streams) (joined streams)) in
-      stands-written 2 n (short-at streams short k) (stands-inner counts (count-stands streams k there))
+      stands-written 2 n (short-at streams (w .short) k) (stands-inner counts (count-stands streams k there))
 
   streams-before : (k : ℕ) → k ≤ length streams → bytesBefore s k ≡ before k streams
   unfolding bytesBefore before
@@ -124,23 +118,18 @@ module _ (h : List ℕ) (head : length h ≡ 16) (step interval order : ℕ) (st
   streams-stream k there =
       let n = length streams in
       let inner = stands-behind (countsOf streams) (joined streams) (stream-stands streams k there) in
-      let e : 22 + (length (countsOf streams) + before k streams) ≡ 22 + 2 * n + before k streams = omega (arith, length-counts streams) in
+      let e : 22 + (length (countsOf streams) + before k streams) ≡ 22 + 2 * n + before k streams = omega (arith, length-countsOf streams) in
       rw (streams-before k (omega arith), streams-bytes k there) (stands-part (stands-at e (stands-inner rest-there inner)))
-
-  length-data : length (streamsData step interval order streams) ≡ 6 + 2 * length streams + length (joined streams)
-  unfolding streamsData bytesOf
-  length-data = omega (arith, length-append (countsOf streams) (joined streams), length-counts streams)
 
   -- the section keeps its rule
   pub streams-kept : (step ≡ 0 → ⊥) → (interval ≡ 0 → ⊥) → order ≤ 2 → section6Right (length streams) s ≡ true
   unfolding section6Right streamsRight endsBy streamStart
   streams-kept a b c =
       let n = length streams in
-      let l = length-headed h head d in
-      let m = length-data in
+      let l = length-streamsData step interval order streams in
       let e = streams-before n (omega arith) ∙ before-all streams in
-      let low = le-leb (22 + 2 * n + length (joined streams)) (length s) (omega arith) in
-      let top = le-leb (length s) (22 + 2 * n + length (joined streams) + 1) (omega arith) in
+      let low = le-leb (22 + 2 * n + length (joined streams)) (length s) (omega (arith, w .holds .moved .least)) in
+      let top = le-leb (length s) (22 + 2 * n + length (joined streams) + 1) (omega (arith, w .holds .moved .most)) in
       rw (
         streams-bimodal,
         streams-step,

@@ -2,7 +2,7 @@
 use Prim.Native.Nat.{ℕ, _+_, _-_, _%_, _≤_, _<_}
 use mathlib.Core.Path.{_≡_, refl, ap, _∙_}
 use mathlib.Core.Bool.{Bool, true, false, not, _||_, cond, and-false}
-use mathlib.Core.List.{List, [], _++_, map}
+use mathlib.Core.List.{List, [], map}
 use mathlib.Core.Logic.{_⊎_, inl, inr}
 use mathlib.Core.Option.{Option, some}
 use native.Mathlib.Omega.{arith}
@@ -15,11 +15,13 @@ use Rattle.header.specs.declared.Step.the-variants.{Found, End}
 use Rattle.header.specs.Fields.{fieldsFrom, withTag, occurring}
 use Rattle.header.specs.Header.{section1Right}
 use Rattle.header.proofs.Laws.{found-within}
+use Rattle.header.proofs.Moved.{movedStep, fields-moved, mark-kept, occurring-there}
 use Rattle.pointers.specs.Pointers.{present, startOf, sectionOf}
 use Rattle.record.specs.Opening.{openRefusal, opens}
 use Rattle.fields.specs.Lookup.{placeFound, fieldPlace}
 use Rattle.fields.proofs.Laws.{place-opened}
 use Rattle.tables.specs.Section2.{tablesIn, section2Right}
+use Rattle.tables.proofs.Moved.{tables-there, section2-moved}
 use Rattle.entries.specs.Leads.{section3Right}
 use Rattle.entries.specs.Streams.{streamBytes, streamOf, section6Right}
 use Rattle.rules.specs.Rules.{tablesRight, leadsOf, hasBeat, beatRight, rhythmRight, leadsRight, stepsAgree, agrees, hasLead, leadRefusal}
@@ -27,19 +29,17 @@ use Rattle.samples.specs.Trace.{rebuilt}
 use Rattle.leads.specs.Leads.{tablesOf, streamTrace, countAt, residual, traceAt, roomRight, readRefusal, readTrace}
 use Rattle.leads.specs.Answers.{leadAnswer, entryAnswer}
 use Rattle.encode.specs.Encoding.{tablesGiven, givenRight}
-use Rattle.layout.specs.Layout.{evened, sizeFor, noLetters, leadsData, streamsData, recordBytes}
+use Rattle.layout.specs.Layout.{sizeFor, noLetters, leadsData, streamsData, recordBytes}
 use Rattle.compose.specs.Writing.{Job, jobRight, cut, FoundAll, streamsOf, allShort, recordOf}
 use Rattle.trip.specs.GivenBack.{JobBytes, GivenBack, bytesOfStep, bytesAtPlace, behindHeader, samplesOf}
 use Rattle.trip.proofs.Traces.{stream-back}
-use Rattle.trip.proofs.Places.{Stands, stands-part, stands-cut, stands-inner}
-use Rattle.trip.proofs.Sections.{headOf, section-headed, length-head, headed-data}
-use Rattle.trip.proofs.Header.{movedStep, fields-moved, mark-kept, occurring-there}
-use Rattle.trip.proofs.Tables.{tables-there, section2-moved, given-right}
-use Rattle.trip.proofs.Placed.{Placed, absent-present, placed-present, placed-section}
+use Rattle.wire.proofs.Places.{Stands, stands-part, stands-cut, stands-inner}
+use Rattle.trip.proofs.Sections.{headOf, section-headed, length-head, headed-holds}
+use Rattle.trip.proofs.Placed.{Placed, absent-present, placed-present, placed-holds}
 use Rattle.trip.proofs.Opened as O
 use Rattle.trip.proofs.Entries as E
 use Rattle.trip.proofs.Streams as S
-use Rattle.trip.proofs.Compose.{Right, job-right, length-cut, cut-count, cut-fits, found-length, found-at}
+use Rattle.trip.proofs.Compose.{Right, job-right, given-right, length-cut, cut-count, cut-fits, found-length, found-at}
 
 -- ---- fields
 
@@ -48,7 +48,7 @@ module _ (r : List ℕ) (v : ℕ) (d : List ℕ) (opened : openRefusal r ≡ 0) 
   -- its data
   data-there : Stands r 158 d
   data-there =
-      let inner = headed-data (headOf 1 v noLetters d) (length-head 1 v noLetters d refl) d in
+      let inner = headed-holds (headOf 1 v noLetters d) (length-head 1 v noLetters d refl) d .stands in
       stands-inner (p .there) (rw (← section-headed 1 v noLetters d) at inner)
 
   -- a field is shown as it was given
@@ -57,8 +57,8 @@ module _ (r : List ℕ) (v : ℕ) (d : List ℕ) (opened : openRefusal r ≡ 0) 
   field-shown tag n =
       let place = placeFound (startOf r 1) (occurring n (withTag tag (fieldsFrom (sectionOf r 1) 16))) in
       let start : startOf r 1 ≡ 142 = omega (arith, p .index) in
-      let there = occurring-there (headOf 1 v noLetters d) (length-head 1 v noLetters d refl) d right n tag in
-      rw (place-opened r place _ opened, placed-section p, there, start) (go (occurring n (withTag tag (fieldsFrom d 0))) refl)
+      let there = occurring-there (placed-holds p .moved) right n tag in
+      rw (place-opened r place _ opened, there, start) (go (occurring n (withTag tag (fieldsFrom d 0))) refl)
     where
       go : (s : Step) → occurring n (withTag tag (fieldsFrom d 0)) ≡ s → bytesAtPlace r (placeFound 142 (movedStep s)) ≡ bytesOfStep d s
       go End e = refl
@@ -70,17 +70,11 @@ module _ (r : List ℕ) (v : ℕ) (d : List ℕ) (opened : openRefusal r ≡ 0) 
 
   -- Section 1's data are those given
   section1-there : part (sectionOf r 1) 16 (16 + length d) ≡ d
-  section1-there =
-      let h = headOf 1 v noLetters d in
-      let head = length-head 1 v noLetters d refl in
-      rw (placed-section p) (stands-part (headed-data h head d))
+  section1-there = stands-part (placed-holds p .stands)
 
   -- and a walk meets the fields in their order
   walk-there : fieldsFrom (sectionOf r 1) 16 ≡ map behindHeader (fieldsFrom d 0)
-  walk-there =
-      let h = headOf 1 v noLetters d in
-      let head = length-head 1 v noLetters d refl in
-      rw (placed-section p) (fields-moved h head d (mark-kept h head d right))
+  walk-there = fields-moved (placed-holds p .moved) (mark-kept (placed-holds p .moved) right)
 
 -- ---- leads
 
@@ -104,12 +98,6 @@ module _ (j : Job) (founds : List (Option (List ℕ))) (streams : List (List ℕ
   abbrev n : ℕ
   n = length (j .counts)
 
-  abbrev h3 : List ℕ
-  h3 = headOf 3 (j .version) noLetters d3
-
-  abbrev h6 : List ℕ
-  h6 = headOf 6 (j .version) noLetters d6
-
   right : Right j
   right = job-right j asked
 
@@ -129,42 +117,35 @@ module _ (j : Job) (founds : List (Option (List ℕ))) (streams : List (List ℕ
   present6 : present r 6 ≡ true
   present6 = placed-present (O.section6-placed (j .version) (j .section1) (j .section2) d3 d6 small)
 
-  section3 : sectionOf r 3 ≡ h3 ++ evened d3
-  section3 = placed-section (O.section3-placed (j .version) (j .section1) (j .section2) d3 d6 small)
+  three : E.Leads (sectionOf r 3) (j .flags) (j .firsts) (j .counts) (j .ids)
+  three = record {
+    holds = placed-holds (O.section3-placed (j .version) (j .section1) (j .section2) d3 d6 small);
+    all = right .firsts;
+    named = right .ids;
+    asked = right .leads;
+  }
 
-  section6 : sectionOf r 6 ≡ h6 ++ evened d6
-  section6 = placed-section (O.section6-placed (j .version) (j .section1) (j .section2) d3 d6 small)
-
-  six3 : length h3 ≡ 16
-  six3 = length-head 3 (j .version) noLetters d3 refl
-
-  six6 : length h6 ≡ 16
-  six6 = length-head 6 (j .version) noLetters d6 refl
-
-  rooms : (j .step < 65536) × (j .interval < 65536)
-  rooms = (bytes .step, bytes .interval)
+  six : S.Streams (sectionOf r 6) (j .step) (j .interval) (j .order) streams
+  six = record {
+    holds = placed-holds (O.section6-placed (j .version) (j .section1) (j .section2) d3 d6 small);
+    short = short;
+    small = (bytes .step, bytes .interval);
+  }
 
   -- what they say
   leads-there : leadsOf r ≡ n
-  leads-there = rw section3 (E.leads-count h3 six3 (j .flags) (j .firsts) (j .counts) (j .ids) (right .firsts) (right .ids) (right .leads))
+  leads-there = E.leads-count three
 
   no-beat : hasBeat r ≡ false
   unfolding hasBeat
-  no-beat =
-      let e = E.leads-whole h3 six3 (j .flags) (j .firsts) (j .counts) (j .ids) (right .firsts) (right .ids) (right .leads) in
-      rw (present3, section3) e
+  no-beat = rw present3 (E.leads-whole three)
 
   section6-kept : section6Right (leadsOf r) (sectionOf r 6) ≡ true
   section6-kept =
-      let w = right in
-      let e = S.streams-kept h6 six6 (j .step) (j .interval) (j .order) streams short rooms (w .step) (w .interval) (w .order) in
-      rw (leads-there, section6, ← as-many) e
+      rw (leads-there, ← as-many) (S.streams-kept six (right .step) (right .interval) (right .order))
 
   section3-kept : section3Right (sectionOf r 3) ≡ true
-  section3-kept =
-      rw section3
-      (E.leads-kept h3 six3 (j .flags) (j .firsts) (j .counts) (j .ids) (right .firsts) (right .ids) (right .leads) (right .some)
-      (right .most))
+  section3-kept = E.leads-kept three (right .some) (right .most)
 
   -- rules 7 to 10
   tables-kept : tablesRight r ≡ true
@@ -174,11 +155,7 @@ module _ (j : Job) (founds : List (Option (List ℕ))) (streams : List (List ℕ
       go : (b : Bool) → eqb (length (j .section2)) 0 ≡ b → b || section2Right 0 (j .section2) 0 ≡ true
           → not (present r 2) || section2Right 1 (sectionOf r 2) 16 ≡ true
       go true e g = rw (absent2 e)
-      go false e g =
-          let p = placed2 e in
-          let h2 = headOf 2 (j .version) noLetters (j .section2) in
-          rw (placed-present p, placed-section p)
-          (section2-moved h2 (length-head 2 (j .version) noLetters (j .section2) refl) (j .section2) g)
+      go false e g = rw (placed-present (placed2 e)) (section2-moved (placed-holds (placed2 e) .moved) g)
 
   leads-kept : leadsRight r ≡ true
   unfolding leadsRight beatRight rhythmRight
@@ -186,9 +163,7 @@ module _ (j : Job) (founds : List (Option (List ℕ))) (streams : List (List ℕ
 
   agrees-kept : agrees r ≡ true
   unfolding agrees stepsAgree
-  agrees-kept =
-      let e = S.streams-bimodal h6 six6 (j .step) (j .interval) (j .order) streams short rooms in
-      rw (present6, section6, e, no-beat)
+  agrees-kept = rw (present6, S.streams-bimodal six, no-beat)
 
   -- the reader's tables are the writer's
   tables-same : tablesOf r ≡ tablesGiven (j .section2)
@@ -198,10 +173,7 @@ module _ (j : Job) (founds : List (Option (List ℕ))) (streams : List (List ℕ
       go : (b : Bool) → eqb (length (j .section2)) 0 ≡ b
           → cond (present r 2) (tablesIn (sectionOf r 2) 16) [] ≡ cond b [] (tablesIn (j .section2) 0)
       go true e = rw (absent2 e)
-      go false e =
-          let p = placed2 e in
-          let h2 = headOf 2 (j .version) noLetters (j .section2) in
-          rw (placed-present p, placed-section p) (tables-there h2 (length-head 2 (j .version) noLetters (j .section2) refl) (j .section2))
+      go false e = rw (placed-present (placed2 e)) (tables-there (placed-holds (placed2 e) .moved))
 
   opened : openRefusal r ≡ 0
   opened = O.opens-written (j .version) (j .section1) (j .section2) d3 d6 small one
@@ -247,26 +219,21 @@ module _ (j : Job) (founds : List (Option (List ℕ))) (streams : List (List ℕ
           lead-accepted,
           e,
           leads-there,
-          section3,
-          section6,
-          E.lead-id h3 six3 (j .flags) (j .firsts) (j .counts) (j .ids) (right .firsts) (right .ids) (right .leads) k there,
-          E.leads-flags h3 six3 (j .flags) (j .firsts) (j .counts) (j .ids) (right .firsts) (right .ids) (right .leads),
-          S.streams-order h6 six6 (j .step) (j .interval) (j .order) streams short rooms,
-          S.streams-step h6 six6 (j .step) (j .interval) (j .order) streams short rooms,
-          S.streams-interval h6 six6 (j .step) (j .interval) (j .order) streams short rooms,
-          E.lead-first h3 six3 (j .flags) (j .firsts) (j .counts) (j .ids) (right .firsts) (right .ids) (right .leads) k there,
-          E.lead-last h3 six3 (j .flags) (j .firsts) (j .counts) (j .ids) (right .firsts) (right .ids) (right .leads) k there,
+          E.lead-id three k there,
+          E.leads-flags three,
+          S.streams-order six,
+          S.streams-step six,
+          S.streams-interval six,
+          E.lead-first three k there,
+          E.lead-last three k there,
         )
 
     count-there : countAt r k ≡ getD (j .counts) k 0
-    count-there =
-        rw section3 (E.lead-count h3 six3 (j .flags) (j .firsts) (j .counts) (j .ids) (right .firsts) (right .ids) (right .leads) k there)
+    count-there = E.lead-count three k there
 
     -- the stream is rebuilt to the samples
     stream-there : streamOf (leadsOf r) (sectionOf r 6) k ≡ getD streams k []
-    stream-there =
-        let e = S.streams-stream h6 six6 (j .step) (j .interval) (j .order) streams short rooms k (omega (arith, as-many)) in
-        rw (leads-there, section6, ← as-many) e
+    stream-there = rw (leads-there, ← as-many) (S.streams-stream six k (omega (arith, as-many)))
 
     samples-there : residual r k ≡ rebuilt (samplesOf j k)
     unfolding residual streamTrace
@@ -274,11 +241,11 @@ module _ (j : Job) (founds : List (Option (List ℕ))) (streams : List (List ℕ
         let xs = samplesOf j k in
         let l = found-at (j .section2) (j .order) streams found made k (omega (arith, length-cut (j .counts) (j .samples))) in
         let g = given-right (j .section2) two in
-        let o = S.streams-order h6 six6 (j .step) (j .interval) (j .order) streams short rooms in
+        let o = S.streams-order six in
         let c = cut-count (j .counts) (j .samples) (right .total) k there in
         let fit = cut-fits (j .counts) (j .samples) (bytes .samples) k in
-        let back = stream-back (length (tablesGiven (j .section2))) (tablesGiven (j .section2)) g (j .order) xs (l .bits) fit (l .shortest .stream) in
-        rw (stream-there, count-there, tables-same, section6, o, l .bytes, ← c) back
+        let back = stream-back (length (tablesGiven (j .section2))) (tablesGiven (j .section2)) g (j .order) xs (l .bits) fit (l .reads) in
+        rw (stream-there, count-there, tables-same, o, l .bytes, ← c) back
 
     -- with room for them
     module _ (room work : ℕ) (enough : getD (j .counts) k 0 ≤ room) where
@@ -307,13 +274,11 @@ module _ (j : Job) (founds : List (Option (List ℕ))) (streams : List (List ℕ
           rw (
             lead-read,
             e,
-            section3,
-            section6,
-            E.lead-id h3 six3 (j .flags) (j .firsts) (j .counts) (j .ids) (right .firsts) (right .ids) (right .leads) k there,
-            E.leads-flags h3 six3 (j .flags) (j .firsts) (j .counts) (j .ids) (right .firsts) (right .ids) (right .leads),
-            S.streams-step h6 six6 (j .step) (j .interval) (j .order) streams short rooms,
-            S.streams-interval h6 six6 (j .step) (j .interval) (j .order) streams short rooms,
-            E.lead-first h3 six3 (j .flags) (j .firsts) (j .counts) (j .ids) (right .firsts) (right .ids) (right .leads) k there,
+            E.lead-id three k there,
+            E.leads-flags three,
+            S.streams-step six,
+            S.streams-interval six,
+            E.lead-first three k there,
             cut-count (j .counts) (j .samples) (right .total) k there,
           )
 

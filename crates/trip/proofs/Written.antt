@@ -1,6 +1,6 @@
 -- The round trip from the writer's contract: where writing a job is not refused, the reader gives back what the output then begins with.
 -- Assumes nothing.
-use Prim.Native.Nat.{ℕ, zero, suc, _*_, _≤_}
+use Prim.Native.Nat.{ℕ, zero, suc, _≤_}
 use mathlib.Core.Path.{_≡_, refl}
 use mathlib.Core.Bool.{true, _&&_, and-eq-true-iff}
 use mathlib.Core.List.{List}
@@ -10,12 +10,11 @@ use borrow.Author.Tests.{leb-true}
 use lib.Dec.{leb}
 use lib.ListN.{length, take, drop}
 use lib.Seq.{take-append-seam}
-use Rattle.wire.specs.Rules.{unless}
+use Rattle.wire.proofs.Laws.{kept-first}
 use Rattle.header.specs.Header.{section1Right}
-use Rattle.rules.proofs.Laws.{kept-first}
-use Rattle.encode.specs.Encoding.{tablesGiven, givenRight}
+use Rattle.encode.specs.Encoding.{givenRight}
 use Rattle.compose.specs.declared.Written.{Written}
-use Rattle.compose.specs.Writing.{Job, longest, jobRight, jobRefusal, cut, FoundAll, streamsOf, allShort, recordOf, foundRefusal, writtenAs, outAs, Wrote, refused, searched}
+use Rattle.compose.specs.Writing.{Job, jobRight, jobRefusal, cut, FoundAll, streamsOf, allShort, recordOf, foundRefusal, writtenAs, outAs, Wrote, refused, searched}
 use Rattle.trip.specs.GivenBack.{JobBytes, GivenBack}
 use Rattle.trip.proofs.Trip.{given-back}
 
@@ -24,12 +23,9 @@ pub job-kept : (j : Job) (work : ℕ) → jobRefusal j work ≡ 0
     → (jobRight j ≡ true) × (section1Right 0 (j .section1) 0 ≡ true) × (givenRight (j .section2) ≡ true)
 unfolding jobRefusal
 job-kept j work h =
-    let from11 = unless (leb (longest (j .counts) * length (tablesGiven (j .section2))) work) 11 0 in
-    let from7 = unless (givenRight (j .section2)) 7 from11 in
-    let from6 = unless (section1Right 0 (j .section1) 0) 6 from7 in
-    let a = kept-first (jobRight j) 16 from6 h in
-    let b = kept-first (section1Right 0 (j .section1) 0) 5 from7 (a .1) in
-    let c = kept-first (givenRight (j .section2)) 6 from11 (b .1) in
+    let a = kept-first (jobRight j) 16 _ h in
+    let b = kept-first (section1Right 0 (j .section1) 0) 5 _ (a .1) in
+    let c = kept-first (givenRight (j .section2)) 6 _ (b .1) in
     (a .0, b .0, c .0)
 
 -- and after it
@@ -38,8 +34,8 @@ found-kept : (j : Job) (room : ℕ) (streams : List (List ℕ)) → foundRefusal
 unfolding foundRefusal
 found-kept j room streams h =
     let n = length (recordOf j streams) in
-    let a = kept-first (allShort streams && leb n 1048576) 15 (unless (leb n room) 11 0) h in
-    let b = and-eq-true-iff (allShort streams) (leb n 1048576) .0 (a .0) in
+    let a = kept-first (allShort streams && leb n 1048576) 15 _ h in
+    let b = and-eq-true-iff (allShort streams) _ .0 (a .0) in
     (b .0, leb-true n 1048576 (b .1))
 
 -- the answer's bytes of the output

@@ -1,67 +1,59 @@
 -- What the proofs of this crate cite, and that a walk shows every field of Section 1. Assumes nothing.
 use Prim.Native.Nat.{ℕ, zero, suc, _+_, _-_, _%_, _≤_, _<_}
 use mathlib.Core.Path.{_≡_, refl}
-use mathlib.Core.Bool.{Bool, true, false, _&&_, cond, and-eq-true-iff}
+use mathlib.Core.Bool.{Bool, true, false, cond, and-eq-true-iff}
 use mathlib.Core.List.{List, [], map}
 use native.Mathlib.Omega.{arith}
 use lib.Dec.{leb, ltb, eqb}
 use lib.ListN.{length}
 use borrow.Author.Tests.{leb-true, eqb-true}
 use Rattle.wire.specs.Numbers.{numberAt, part}
-use Rattle.wire.specs.Rules.{allIn, unless}
-use Rattle.wire.proofs.Laws.{all-at}
+use Rattle.wire.proofs.Laws.{all-at, kept-first, unlike}
 use Rattle.header.specs.declared.Field.{Field}
 use Rattle.header.specs.declared.Step.{Step}
 use Rattle.header.specs.declared.Step.the-variants.{Found, End}
 use Rattle.header.specs.Fields.{stepAt, fieldsFrom}
 use Rattle.header.proofs.Laws.{step-past, step-found, fields-step}
 use Rattle.pointers.specs.Pointers.{section0Length, countOf, indexOf, present, startOf, lengthOf, endOf, sectionOf, dataAt}
-use Rattle.record.specs.Rules.{lengthRight, recordCheckRight, lettersRight, section0Right, placeRight, headerRepeats}
-use Rattle.record.specs.Rules.{sectionsApart, placedRight, allPlacedRight, checksRight, fieldsRight}
+use Rattle.record.specs.Rules.{lengthRight, recordCheckRight, lettersRight, section0Right, placeRight, placedRight, allPlacedRight}
 use Rattle.record.specs.Opening.{openRefusal, opens}
 use Rattle.fields.specs.declared.Place.the-variants.{At, Refused}
 use Rattle.fields.specs.Lookup.{walkPlace, partBytes}
 use Rattle.walker.specs.Walk.{shownBy}
 
--- where no refusal is given, the third and the fourth rule are kept
-none-refused : (a b c d : Bool) (later : ℕ) → unless a 1 (unless b 2 (unless c 3 (unless d 4 later))) ≡ 0 → (c ≡ true) × (d ≡ true)
-none-refused true true true true later h = (refl, refl)
-none-refused true true true false later h = absurd (omega arith)
-none-refused true true false d later h = absurd (omega arith)
-none-refused true false c d later h = absurd (omega arith)
-none-refused false b c d later h = absurd (omega arith)
-
--- of four that hold together, the third and the rest hold
-both : (a b c d : Bool) → (a && (b && (c && d))) ≡ true → (c ≡ true) × (d ≡ true)
-both a b c d h = and-eq-true-iff c d .0 (and-eq-true-iff b (c && d) .0 (and-eq-true-iff a (b && (c && d)) .0 h .1) .1)
-
 -- Section 0 of a record that keeps its rule has a pointer to Section 1
 counted : (r : List ℕ) → section0Right r ≡ true → 1 < countOf r
 unfolding section0Right
-counted r h = let c = leb-true 12 (countOf r) (both (eqb (numberAt 2 r 8) 0) (lettersRight r) (leb 12 (countOf r)) _ h .0) in omega arith
+counted r h =
+    let p = and-eq-true-iff (eqb (numberAt 2 r 8) 0) _ .0 h in
+    let q = and-eq-true-iff (lettersRight r) _ .0 (p .1) in
+    let c = leb-true 12 (countOf r) (and-eq-true-iff (leb 12 (countOf r)) _ .0 (q .1) .0) in
+    omega arith
 
 -- a section whose place is right ends within the record
 place-right-inside : (r : List ℕ) (k : ℕ) → placeRight r k ≡ true → endOf r k ≤ length r
 unfolding placeRight
 place-right-inside r k h =
-    leb-true (endOf r k) (length r)
-    (both (eqb (lengthOf r k % 2) 0) (leb 16 (lengthOf r k)) (ltb (6 + section0Length r) (indexOf r k)) (leb (endOf r k) (length r)) h .1)
+    let p = and-eq-true-iff (eqb (lengthOf r k % 2) 0) _ .0 h in
+    let q = and-eq-true-iff (leb 16 (lengthOf r k)) _ .0 (p .1) in
+    leb-true (endOf r k) (length r) (and-eq-true-iff (ltb (6 + section0Length r) (indexOf r k)) _ .0 (q .1) .1)
 
 -- so does one that is present
 placed-inside : (r : List ℕ) (k : ℕ) → present r k ≡ true → placedRight r k ≡ true → endOf r k ≤ length r
 unfolding placedRight
 placed-inside r k p h =
-    place-right-inside r k (and-eq-true-iff (placeRight r k) (headerRepeats r k && allIn 1 k (sectionsApart r k)) .0 (rw p at h) .0)
+    place-right-inside r k (and-eq-true-iff (placeRight r k) _ .0 (rw p at h) .0)
 
 -- so does Section 1 of an opened record
 section-inside : (r : List ℕ) → opens r ≡ true → endOf r 1 ≤ length r
 unfolding opens openRefusal allPlacedRight
 section-inside r h =
-    let later = unless (checksRight r) 5 (unless (fieldsRight r) 6 0) in
-    let none = eqb-true (openRefusal r) 0 h in
-    let kept = none-refused (lengthRight r) (recordCheckRight r) (section0Right r) (allPlacedRight r) later none in
-    let placed = and-eq-true-iff (present r 1) (allIn 1 (countOf r) (placedRight r)) .0 (kept .1) in
-    placed-inside r 1 (placed .0) (all-at (placedRight r) 1 (countOf r) (placed .1) 1 (omega arith) (counted r (kept .0)))
+    let a = kept-first (lengthRight r) 0 _ (eqb-true (openRefusal r) 0 h) in
+    let b = kept-first (recordCheckRight r) 1 _ (a .1) in
+    let c = kept-first (section0Right r) 2 _ (b .1) in
+    let d = kept-first (allPlacedRight r) 3 _ (c .1) in
+    let placed = and-eq-true-iff (present r 1) _ .0 (d .0) in
+    placed-inside r 1 (placed .0) (all-at (placedRight r) 1 (countOf r) (placed .1) 1 (omega arith) (counted r (c .0)))
 
 -- so the place of a walk lies within the record
 pub place-inside : (r : List ℕ) (start size : ℕ) → walkPlace r ≡ At start size → start + size ≤ length r
@@ -75,7 +67,7 @@ place-inside r start size h = go (opens r) refl h
         let a : startOf r 1 ≡ start = cc in
         let b : lengthOf r 1 ≡ size = cc in
         omega arith
-    go false o e = absurd (let z : _≡_ {A = ℕ} 0 1 = cc in omega arith)
+    go false o e = unlike cc
 
 -- a field as a step shows it: its tag and its bytes
 abbrev shown : List ℕ → Field → ℕ × List ℕ

@@ -1,17 +1,22 @@
--- What the proofs of this crate and of those above it cite. Assumes nothing.
+-- Numbers and their bytes, the check, and rules of every number: what the proofs of this crate and of those above it cite. Assumes
+-- nothing.
 use Prim.Native.Nat.{ℕ, zero, suc, _+_, _-_, _*_, _/_, _%_, _^_, _≤_, _<_}
 use mathlib.Core.Path.{_≡_, refl, ap, _∙_}
-use mathlib.Core.Bool.{Bool, true, false}
+use mathlib.Core.Bool.{Bool, true, false, cond}
 use mathlib.Core.List.{List, [], _∷_, _++_}
 use native.Mathlib.Nat.{zero-add, add-zero, suc-add, pow-suc, mul-assoc}
 use native.Mathlib.Numerals.{add-one}
 use native.Mathlib.Omega.{arith}
 use native.Mathlib.Decide.{decLt}
+use lib.Bits.{bitXor, xor-lt}
+use lib.Dec.{ltb}
 use lib.ListN.{length, getD, take, drop, length-append, drop-of-length-le, List·getD-eq-default}
 use lib.Seq.{drop-cons, getD-append-seam, append-snoc, take-at, drop-at, drop-drop}
 use Rattle.wire.specs.Numbers.{numberAt, bytesOf}
 use Rattle.wire.specs.Check.{crcBit, crcBits, crcByte, crcFrom, crcOf}
-use Rattle.wire.specs.Rules.{each, allIn}
+use Rattle.wire.specs.Rules.{each, allIn, unless}
+
+-- ---- numbers
 
 -- past the end a number of any width is 0
 pub number-past : (w : ℕ) (s : List ℕ) (i : ℕ) → length s ≤ i → numberAt w s i ≡ 0
@@ -54,6 +59,8 @@ pub put-next : (p b l : List ℕ) (k m : ℕ) → length p ≡ k
 put-next p b l k m h =
     rw (take-at p (drop k l) k h, ← drop-drop m k (p ++ drop k l), drop-at p (drop k l) k h, drop-drop m k l)
 
+-- ---- the check
+
 -- the first of the bits still to come
 pub bits-more : (n k x : ℕ) → k < n → crcBits (n - k) x ≡ crcBits (n - (k + 1)) (crcBit x)
 unfolding crcBits
@@ -74,16 +81,33 @@ pub from-done : (c : ℕ) (s : List ℕ) (i : ℕ) → length s ≤ i → crcFro
 unfolding crcFrom
 from-done c s i h = ap (crcFrom c) (drop-of-length-le s h)
 
--- the register over two lists, one after the other
-from-append : (c : ℕ) (a b : List ℕ) → crcFrom c (a ++ b) ≡ crcFrom (crcFrom c a) b
-unfolding crcFrom
-from-append c [] b = refl
-from-append c (x ∷ a) b = from-append (crcByte c x) a b
+-- the register has 16 bits after a bit, after several, and after bytes
+bit-small : (c : ℕ) → crcBit c < 65536
+unfolding crcBit
+bit-small c = go (ltb c 32768)
+  where
+    go : (b : Bool) → cond b (c % 32768 * 2) (bitXor (c % 32768 * 2) 4129) < 65536
+    go true = omega arith
+    go false = xor-lt 16 (c % 32768 * 2) 4129 (omega arith) (omega arith)
 
--- the check over two lists goes on from that over the first
-pub crc-append : (a b : List ℕ) → crcOf (a ++ b) ≡ crcFrom (crcOf a) b
+bits-small : (k c : ℕ) → c < 65536 → crcBits k c < 65536
+unfolding crcBits
+bits-small zero c h = h
+bits-small (suc k) c h = bits-small k (crcBit c) (bit-small c)
+
+from-small : (s : List ℕ) (c : ℕ) → c < 65536 → crcFrom c s < 65536
+unfolding crcFrom crcByte crcBits
+from-small [] c h = h
+from-small (b ∷ s) c h =
+    let x = bitXor c (b * 256) in
+    from-small s (crcByte c b) (bits-small 7 (crcBit x) (bit-small x))
+
+-- the check of any bytes has room in two
+pub crc-small : (s : List ℕ) → crcOf s < 65536
 unfolding crcOf
-crc-append a b = from-append 65535 a b
+crc-small s = from-small s 65535 (omega arith)
+
+-- ---- rules
 
 -- where no number is left, p holds of all
 pub all-end : (p : ℕ → Bool) (i e : ℕ) → e ≤ i → allIn i e p ≡ true
@@ -115,3 +139,23 @@ each-at (suc n) i p t k h g = go (p i) refl (decLt i k) (λ r l. each-at n (i + 
 pub all-at : (p : ℕ → Bool) (i e : ℕ) → allIn i e p ≡ true → (k : ℕ) → i ≤ k → k < e → p k ≡ true
 unfolding allIn
 all-at p i e t k h g = each-at (e - i) i p t k h (omega arith)
+
+-- a rule that holds of each number holds of all
+each-all : (n i : ℕ) (p : ℕ → Bool) → ((k : ℕ) → i ≤ k → k < i + n → p k ≡ true) → each n i p ≡ true
+unfolding each
+each-all zero i p h = refl
+each-all (suc n) i p h = rw (h i (omega arith) (omega arith)) (each-all n (i + 1) p (λ k a b. h k (omega arith) (omega arith)))
+
+pub all-all : (p : ℕ → Bool) (i e : ℕ) → i ≤ e → ((k : ℕ) → i ≤ k → k < e → p k ≡ true) → allIn i e p ≡ true
+unfolding allIn
+all-all p i e l h = each-all (e - i) i p (λ k a b. h k a (omega arith))
+
+-- where a chain of rules answers 0, its first rule is kept, and the others answer 0
+pub kept-first : (kept : Bool) (number later : ℕ) → unless kept (suc number) later ≡ 0 → (kept ≡ true) × (later ≡ 0)
+kept-first true number later h = (refl, h)
+kept-first false number later h = absurd (omega arith)
+
+-- ---- what cannot be
+
+pub unlike : {A : Type 0} → _≡_ {A = ℕ} 0 1 → A
+unlike e = absurd (omega arith)

@@ -4,6 +4,7 @@ use mathlib.Core.Path.{_≡_, _∙_}
 use native.Mathlib.Omega.{arith}
 use borrow.Author.Needs.{needs}
 use borrow.Author.Tests.{leb-true, leb-false}
+use Rattle.wire.proofs.Laws.{unlike}
 use Rattle.beats.proofs.Laws.{miss-type, miss-end}
 use Rattle.beats.proofs.reaches.Statement.{statement}
 use Rattle.beats.proofs.reaches.Tie as tie
@@ -15,7 +16,7 @@ returns : tie.Need-returns
 returns c =
     let a = c .before .before .before .args in
     let told = c .before .zone-type .ensures .0 in (
-      λ t. (let z : _≡_ {A = ℕ} 0 1 = cc in absurd (omega arith)),
+      λ t. unlike cc,
       λ f m g. miss-type (a .s .now) (a .k) m (λ z. c .if1 .taken (told ∙ z)),
     )
 

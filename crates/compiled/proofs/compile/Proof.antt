@@ -6,9 +6,9 @@ use native.Mathlib.Omega.{arith}
 use Rattle.tables.specs.Structures.{every}
 use Rattle.tables.specs.Default.{defaultTable}
 use Rattle.tables.specs.Section2.{tablesFrom, tablesIn}
-use Rattle.tables.proofs.Laws.{RightTables}
+use Rattle.tables.proofs.Laws.{RightTables, length-tables, own-tables}
 use Rattle.tables.proofs.Default.{default-right}
-use Rattle.compiled.proofs.Laws.{length-tables, default-two, tables-two, ready, own-tables}
+use Rattle.compiled.proofs.Putting.{default-two, tables-two, ready}
 use borrow.Author.Needs.{needs}
 use Rattle.compiled.proofs.compile.Statement.{statement}
 use Rattle.compiled.proofs.compile.Tie as tie

@@ -12,7 +12,8 @@ use Rattle.tables.specs.Default.{defaultTable, twoValues, valued}
 use Rattle.tables.proofs.Laws.{fine, table-right, every-at}
 use Rattle.tables.proofs.Default.{default-right}
 use Rattle.compiled.specs.InnerForm.{formOf}
-use Rattle.compiled.proofs.Laws.{Upto, upto-start, upto-turn, upto-end, form-fine, form-room}
+use Rattle.compiled.proofs.Laws.{form-fine, form-room}
+use Rattle.compiled.proofs.Putting.{Upto, upto-start, upto-turn, upto-end}
 use Rattle.compiled.proofs.put_default.Statement.{statement}
 use Rattle.compiled.proofs.put_default.Tie as tie
 

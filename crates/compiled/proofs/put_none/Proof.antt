@@ -6,7 +6,7 @@ use native.Mathlib.Omega.{arith}
 use lib.ListN.{length, getD, length-set}
 use lib.Seq.{getD-set-other}
 use Rattle.compiled.specs.InnerForm.{Says}
-use Rattle.compiled.proofs.Laws.{none-turn}
+use Rattle.compiled.proofs.Putting.{none-turn}
 use Rattle.compiled.proofs.put_none.Statement.{statement}
 use Rattle.compiled.proofs.put_none.Tie as tie
 

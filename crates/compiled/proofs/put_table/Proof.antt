@@ -9,7 +9,8 @@ use Rattle.tables.specs.declared.Structure.{Structure}
 use Rattle.tables.specs.Structures.{noStructure, structureAt, structuresAt, structureRight}
 use Rattle.tables.proofs.Laws.{fine, every-at, length-structuresAt, getD-structuresAt}
 use Rattle.compiled.specs.InnerForm.{formOf}
-use Rattle.compiled.proofs.Laws.{Upto, upto-start, upto-turn, upto-end, form-fine, form-room}
+use Rattle.compiled.proofs.Laws.{form-fine, form-room}
+use Rattle.compiled.proofs.Putting.{Upto, upto-start, upto-turn, upto-end}
 use Rattle.compiled.proofs.put_table.Statement.{statement}
 use Rattle.compiled.proofs.put_table.Tie as tie
 

@@ -13,7 +13,7 @@ use Rattle.compiled.specs.InnerForm.{formOf, Ready}
 use Rattle.compiled.proofs.Laws.{held-count, held-form, held-fine}
 use Rattle.reading.specs.Reading.{matching}
 use Rattle.reading.specs.InnerCursor.{Seen, formed}
-use Rattle.reading.proofs.Laws.{matching-here, matching-behind, matching-end}
+use Rattle.reading.proofs.Cursors.{matching-here, matching-behind, matching-end}
 use Rattle.reading.proofs.find.Statement.{statement}
 use Rattle.reading.proofs.find.Tie as tie
 

@@ -4,7 +4,7 @@ use mathlib.Core.Path.{ap, _∙_}
 use native.Mathlib.Omega.{arith}
 use borrow.Author.Needs.{needs}
 use Rattle.bits.specs.InnerRaised.{lower}
-use Rattle.reading.proofs.Laws.{lower-low, lower-high}
+use Rattle.reading.proofs.Cursors.{lower-low, lower-high}
 use Rattle.reading.proofs.raised.Statement.{statement}
 use Rattle.reading.proofs.raised.Tie as tie
 

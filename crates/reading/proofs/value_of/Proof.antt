@@ -11,7 +11,8 @@ use Rattle.bits.specs.Bits.{numberOf, signed}
 use Rattle.bits.specs.InnerRaised.{lower}
 use Rattle.bits.proofs.Windows.{window-after}
 use Rattle.compiled.specs.InnerForm.{lowest}
-use Rattle.reading.proofs.Laws.{lower-base, high-small, value-base, value-rest, value-short, ValueForm, value-form, rest-half}
+use Rattle.reading.proofs.Laws.{value-base, value-rest, value-short}
+use Rattle.reading.proofs.Cursors.{lower-base, high-small, ValueForm, value-form, rest-half}
 use Rattle.reading.proofs.value_of.Statement.{statement}
 use Rattle.reading.proofs.value_of.Tie as tie
 

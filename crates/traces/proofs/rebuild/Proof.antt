@@ -12,7 +12,7 @@ use Rattle.bits.specs.InnerRaised.{lower}
 use Rattle.samples.specs.InnerTrace.{before}
 use Rattle.tables.specs.declared.Structure.{Structure}
 use Rattle.compiled.specs.InnerForm.{Holding}
-use Rattle.reading.proofs.Laws.{length-left}
+use Rattle.reading.proofs.Cursors.{length-left}
 use Rattle.traces.specs.Rebuilding.{rebuildFrom, rebuild}
 use Rattle.traces.specs.InnerTrace.{stepped, Stepped}
 use Rattle.traces.specs.declared.Step.{Step}

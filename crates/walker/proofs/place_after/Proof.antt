@@ -15,10 +15,14 @@ enum-told : tie.Need-enum-told
 enum-told c = search needs
 
 returns : tie.Need-returns
-returns c = sym (ap (placeAfter _) (sym (c .before .before .before .step-at .ensures) ∙ c .before .f .given .1))
+returns c =
+    let at = c .before .before .before .before .before .args .at in
+    sym (ap (placeAfter at) (sym (c .before .before .before .step-at .ensures) ∙ c .before .f .given .1))
 
 returns-2 : tie.Need-returns-2
-returns-2 c = sym (ap (placeAfter _) (sym (c .before .before .step-at .ensures) ∙ c .enum-told .given .1))
+returns-2 c =
+    let at = c .before .before .before .before .args .at in
+    sym (ap (placeAfter at) (sym (c .before .before .step-at .ensures) ∙ c .enum-told .given .1))
 
 pub place-after-spec : {M : Type 1} → statement M
 place-after-spec = tie.close (tie.spec step-at-requires enum-known-f enum-told returns returns-2)

@@ -13,7 +13,8 @@ use Rattle.bits.specs.Bits.{bitsIn}
 use Rattle.tables.specs.declared.Structure.{Structure}
 use Rattle.compiled.specs.InnerForm.{Ready}
 use Rattle.reading.specs.InnerCursor.{Seen, foundIn}
-use Rattle.reading.proofs.Laws.{length-left, seen-left, found-none, read-none, FoundForm, found-form, read-form, read-on, onward-of-from}
+use Rattle.reading.proofs.Laws.{read-none}
+use Rattle.reading.proofs.Cursors.{length-left, seen-left, found-none, FoundForm, found-form, read-form, read-on, onward-of-from}
 use Rattle.reading.proofs.Cursor.burst.Reads as burst
 use Rattle.reading.proofs.Cursor.burst.Kinds as burst-kinds
 use Rattle.reading.proofs.Cursor.+burst+follow.Lts-burst as burst-lts

@@ -10,7 +10,7 @@ use Rattle.tables.specs.declared.Structure.{Structure}
 use Rattle.compiled.specs.InnerForm.{Ready}
 use Rattle.reading.specs.Reading.{readCoded}
 use Rattle.reading.specs.InnerCursor.{toldOf, Within, OnwardOf}
-use Rattle.reading.proofs.Laws.{onward-from}
+use Rattle.reading.proofs.Cursors.{onward-from}
 use Rattle.reading.proofs.Cursor.by_bursts.Statement.{statement}
 use Rattle.reading.proofs.Cursor.by_bursts.Tie as tie
 

@@ -12,7 +12,8 @@ use Rattle.tables.specs.declared.Structure.{Structure}
 use Rattle.compiled.specs.InnerForm.{Ready}
 use Rattle.reading.specs.Reading.{readCoded}
 use Rattle.reading.specs.InnerCursor.{Seen, foundIn, toldOf, Within, OnwardOf}
-use Rattle.reading.proofs.Laws.{length-left, seen-left, found-none, read-none, FoundForm, found-form, read-form, read-on, onward-from}
+use Rattle.reading.proofs.Laws.{read-none}
+use Rattle.reading.proofs.Cursors.{length-left, seen-left, found-none, FoundForm, found-form, read-form, read-on, onward-from}
 use Rattle.reading.proofs.Cursor.coded.Statement.{statement}
 use Rattle.reading.proofs.Cursor.coded.Tie as tie
 

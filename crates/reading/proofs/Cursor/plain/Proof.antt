@@ -11,7 +11,7 @@ use Rattle.bits.specs.Bits.{bitsIn, numberOf}
 use Rattle.bits.proofs.Laws.{Small, small-take, small-drop, number-small}
 use Rattle.bits.proofs.Windows.{window-after}
 use Rattle.reading.specs.Reading.{readPlain}
-use Rattle.reading.proofs.Laws.{length-left, seen-left}
+use Rattle.reading.proofs.Cursors.{length-left, seen-left}
 use Rattle.reading.proofs.Cursor.plain.Statement.{statement}
 use Rattle.reading.proofs.Cursor.plain.Tie as tie
 

@@ -6,7 +6,8 @@ use native.Mathlib.Omega.{arith}
 use lib.ListN.{drop}
 use Rattle.bits.specs.Bits.{bitsIn}
 use Rattle.compiled.proofs.Laws.{held-ready}
-use Rattle.reading.proofs.Laws.{next-past, next-plain, next-coded, next-outside}
+use Rattle.reading.proofs.Laws.{next-coded}
+use Rattle.reading.proofs.Cursors.{next-past, next-plain, next-outside}
 use Rattle.reading.proofs.Cursor.value.Statement.{statement}
 use Rattle.reading.proofs.Cursor.value.Tie as tie
 
@@ -63,7 +64,7 @@ returns-5 c =
     let a = c .before .before .before .before .before .before .before .args in (
       λ tables held.
           let ready = held-ready tables (a .tab .now) held (c .before .before .before .if2 .left) in
-          c .coded .ensures .0 tables ready ∙ sym (next-coded ready (a .self .table) (drop (a .self .at) (bitsIn (a .s .now)))),
+          c .coded .ensures .0 tables ready ∙ sym (next-coded tables (ready .some) (a .self .table) (drop (a .self .at) (bitsIn (a .s .now)))),
       c .coded .ensures .1,
     )
 

@@ -1,7 +1,7 @@
--- Reading a value does not depend on what stands behind its code: a law of the crate reading. Assumes nothing.
+-- Reading a value does not depend on what stands behind its code. Assumes nothing.
 use Prim.Native.Nat.{ℕ, zero, suc, _≤_, _<_}
 use mathlib.Core.Path.{_≡_, refl, sym, ap, _∙_}
-use mathlib.Core.Bool.{Bool, true, false, cond}
+use mathlib.Core.Bool.{true}
 use mathlib.Core.List.{List, [], _∷_, _++_, append-assoc}
 use mathlib.Core.Option.{Option, none, some}
 use native.Mathlib.Decide.{ℕ-discrete, decLe}
@@ -10,27 +10,13 @@ use borrow.Author.Tests.{le-leb, lt-leb}
 use lib.IntN.{ℤ}
 use lib.ListN.{length, take, drop, length-append, length-drop}
 use lib.Seq.{take-append-le, drop-append-le}
-use Rattle.bits.specs.Bits.{begins}
-use Rattle.bits.proofs.Laws.{begins-split}
+use Rattle.wire.proofs.Laws.{unlike}
 use Rattle.tables.specs.declared.Structure.{Structure}
-use Rattle.tables.specs.Structures.{prefixOf, remainderOf, every, structureRight, noStructure}
+use Rattle.tables.specs.Structures.{prefixOf, remainderOf, every}
 use Rattle.tables.specs.Section2.{tableOf, tableRight}
-use Rattle.tables.proofs.Laws.{fine, every-at}
 use Rattle.reading.specs.Reading.{gave, matching, valueOf, readCoded, readPlain, readNext}
-use Rattle.reading.proofs.Laws.{matched, table-there, read-switch, read-value, read-none}
+use Rattle.reading.proofs.Laws.{matched, falls, read-switch, read-value, read-none, gave-value, gave-table, gave-rest}
 use Rattle.reading.proofs.Trip.{matching-own}
-use Rattle.shortest.proofs.Laws.{unlike, gave-value, gave-table, gave-rest}
-
--- a structure that is matched has its prefix in front
-begun : (cs : List Structure) (bs : List ℕ) (c : Structure) → matching cs bs ≡ some c → begins (prefixOf c) bs ≡ true
-unfolding matching
-begun [] bs c h = unlike cc
-begun (d ∷ cs) bs c h = go (begins (prefixOf d) bs) refl h (begun cs bs c)
-  where
-    go : (b : Bool) → begins (prefixOf d) bs ≡ b → cond b (some d) (matching cs bs) ≡ some c
-        → (matching cs bs ≡ some c → begins (prefixOf c) bs ≡ true) → begins (prefixOf c) bs ≡ true
-    go true e g later = let same : d ≡ c = cc in rw same at e
-    go false e g later = later g
 
 -- two bytes
 plain-behind : (t : ℕ) (bs z : List ℕ) (v : ℤ) (u : ℕ) (rest : List ℕ) → readPlain t bs ≡ gave v u rest
@@ -67,20 +53,9 @@ module _ (n : ℕ) (tables : List (List Structure)) (right : every (tableRight n
       → matching (tableOf tables t) (bs ++ z) ≡ some c
   matching-more t bs c h =
       let m = matched (tableOf tables t) bs c h in
-      let p = prefixOf c in
-      let rest = drop (length p) bs in
-      let front = begins-split p bs (begun (tableOf tables t) bs c h) in
-      let e : bs ++ z ≡ p ++ (rest ++ z) = ap (λ (l : List ℕ). l ++ z) front ∙ append-assoc p rest z in
+      let rest = drop (c .prefix) bs in
+      let e : bs ++ z ≡ prefixOf c ++ (rest ++ z) = ap (λ (l : List ℕ). l ++ z) (m .split) ∙ append-assoc (prefixOf c) rest z in
       rw e (matching-own n tables right t (m .place) c (m .there) (m .stands) (rest ++ z))
-
-  -- it takes a bit at least
-  some-prefix : (t : ℕ) (bs : List ℕ) (c : Structure) → matching (tableOf tables t) bs ≡ some c → (1 ≤ c .prefix) × (c .prefix ≤ length bs)
-  some-prefix t bs c h =
-      let cs = tableOf tables t in
-      let m = matched cs bs c h in
-      let all = table-there n tables right t (omega (arith, m .there)) .right in
-      let f = fine n c (rw (m .stands) at (every-at (structureRight n) noStructure cs all (m .place) (m .there))) in
-      (f .some, m .long)
 
   -- what is left behind the code, by the tables, for fewer bits than f
   Shorter : ℕ → Type 0
@@ -94,14 +69,13 @@ module _ (n : ℕ) (tables : List (List Structure)) (right : every (tableRight n
       by-mode : (c : Structure) → matching (tableOf tables t) bs ≡ some c → Dec (c .mode ≡ 0)
           → readCoded tables t (bs ++ z) ≡ gave v u (rest ++ z)
       by-mode c e (yes m) =
-          let w = some-prefix t bs c e in
-          let short : length (drop (c .prefix) bs) < f = omega (arith, length-drop (c .prefix) bs) in
+          let short : length (drop (c .prefix) bs) < f = omega (arith, falls n tables right t bs c e) in
           read-switch n tables right t (bs ++ z) c (matching-more t bs c e) m
-          ∙ rw (drop-append-le (c .prefix) bs z (w .1))
+          ∙ rw (drop-append-le (c .prefix) bs z (matched (tableOf tables t) bs c e .long))
           (later (c .base) (drop (c .prefix) bs) v u rest short (sym (read-switch n tables right t bs c e m) ∙ h))
       by-mode c e (no m) =
           read-value n tables right t (bs ++ z) c (matching-more t bs c e) m
-          ∙ rw (drop-append-le (c .prefix) bs z (some-prefix t bs c e .1))
+          ∙ rw (drop-append-le (c .prefix) bs z (matched (tableOf tables t) bs c e .long))
           (value-behind (remainderOf c) (c .base) t (drop (c .prefix) bs) z v u rest (sym (read-value n tables right t bs c e m) ∙ h))
 
       found : (o : Option Structure) → matching (tableOf tables t) bs ≡ o → readCoded tables t (bs ++ z) ≡ gave v u (rest ++ z)

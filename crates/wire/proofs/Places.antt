@@ -1,12 +1,17 @@
--- Parts that stand one behind another in a list of bytes, and the numbers read there. Assumes nothing.
-use Prim.Native.Nat.{ℕ, _+_, _-_, _≤_, _<_, _^_}
+-- Parts that stand one behind another in a list of bytes, and what is read there. Assumes nothing.
+use Prim.Native.Nat.{ℕ, zero, suc, _+_, _-_, _≤_, _<_, _^_}
 use mathlib.Core.Path.{_≡_, refl, sym, ap, _∙_}
+use mathlib.Core.Bool.{Bool, true, and-eq-true-iff}
 use mathlib.Core.List.{List, [], _++_, append-assoc, append-nil}
+use native.Mathlib.Nat.{add-assoc}
 use native.Mathlib.Omega.{arith}
+use borrow.Author.Tests.{leb-true, le-leb}
+use lib.Dec.{leb}
 use lib.ListN.{length, drop, length-append, length-drop, List·getD-append}
 use lib.Seq.{getD-append-add, drop-append-add, drop-append-le, take-append-le, drop-at, take-at}
 use Rattle.wire.specs.Numbers.{byteAt, numberAt, bytesOf, part}
+use Rattle.wire.specs.Rules.{each, endsBy}
 use Rattle.wire.proofs.Laws.{written-read}
 
 -- a part stands in r from a place on
 pub record Stands (r : List ℕ) (start : ℕ) (x : List ℕ) : Type 0 where
@@ -78,3 +83,33 @@ stands-at {r} {x = x} e s = rw e at s
 -- a number that was written is read
 pub stands-written : {r : List ℕ} {start : ℕ} (w n : ℕ) → n < 256 ^ w → Stands r start (bytesOf w n) → numberAt w r start ≡ n
 stands-written w n h s = rw (s .split, ← s .place) (written-read w n (s .front) (s .rest) h)
+
+-- ---- bytes moved on
+
+-- r shows from a place on what s shows, with at most one byte more behind it
+pub record Moved (r : List ℕ) (start : ℕ) (s : List ℕ) : Type 0 where
+  pub byte : (i : ℕ) → byteAt r (start + i) ≡ byteAt s i
+  pub least : start + length s ≤ length r
+  pub most : length r ≤ start + length s + 1
+
+module _ {r : List ℕ} {start : ℕ} {s : List ℕ} (m : Moved r start s) where
+  -- its numbers
+  pub moved-number : (w i : ℕ) → numberAt w r (start + i) ≡ numberAt w s i
+  unfolding numberAt
+  moved-number zero i = refl
+  moved-number (suc w) i = let later = rw (← add-assoc start i 1) at (moved-number w (i + 1)) in rw (m .byte i, later)
+
+  -- its end: no spare byte in s is at most one in r
+  pub moved-end : (end : ℕ) → endsBy 0 s end ≡ true → endsBy 1 r (start + end) ≡ true
+  unfolding endsBy
+  moved-end end h =
+      let w = and-eq-true-iff (leb end (length s)) (leb (length s) (end + 0)) .0 h in
+      let low = leb-true end (length s) (w .0) in
+      let top = leb-true (length s) (end + 0) (w .1) in
+      rw (le-leb (start + end) (length r) (omega (arith, m .least)), le-leb (length r) (start + end + 1) (omega (arith, m .most)))
+
+-- a rule of each number, moved on
+pub each-moved : (start n k : ℕ) (p q : ℕ → Bool) → ((i : ℕ) → p (start + i) ≡ q i) → each n (start + k) p ≡ each n k q
+unfolding each
+each-moved start zero k p q h = refl
+each-moved start (suc n) k p q h = rw (h k, add-assoc start k 1, each-moved start n (k + 1) p q h)

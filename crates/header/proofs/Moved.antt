@@ -1,24 +1,24 @@
--- The fields of Section 1's data, moved on behind a header: what keeps its rule alone keeps it in a record, and the fields are the same,
--- sixteen places further on. Assumes nothing.
-use Prim.Native.Nat.{ℕ, zero, suc, _+_, _-_, _≤_}
+-- The fields of Section 1's data, moved on behind a section's header: what keeps its rule alone keeps it there, and the fields are the
+-- same, sixteen places further on. Assumes nothing.
+use Prim.Native.Nat.{ℕ, zero, suc, _+_, _-_}
 use mathlib.Core.Path.{_≡_, refl, ap}
 use mathlib.Core.Bool.{Bool, true, false, not, _&&_, cond, and-eq-true-iff}
-use mathlib.Core.List.{List, [], _∷_, _++_, map}
+use mathlib.Core.List.{List, [], _∷_, map}
 use native.Mathlib.Nat.{add-assoc}
 use native.Mathlib.Omega.{arith}
 use borrow.Author.Tests.{leb-true, eqb-true, le-leb}
 use lib.Dec.{leb, eqb}
 use lib.ListN.{length}
 use Rattle.wire.specs.Numbers.{byteAt, numberAt}
-use Rattle.wire.specs.Rules.{each, allIn, endsBy}
+use Rattle.wire.specs.Rules.{allIn, endsBy}
+use Rattle.wire.proofs.Laws.{unlike}
+use Rattle.wire.proofs.Places.{Moved, moved-number, moved-end, each-moved}
 use Rattle.header.specs.declared.Field.{Field}
 use Rattle.header.specs.declared.Step.{Step}
 use Rattle.header.specs.declared.Step.the-variants.{Found, End}
 use Rattle.header.specs.Fields.{isField, fieldAt, stepAt, fieldsFrom, fieldsEnd, withTag, occurring, sizeOf}
 use Rattle.header.specs.Header.{endsAt, sole, keeps, isIdentifier, hasSize, anyField, tagsRight, section1Right}
-use Rattle.header.proofs.Laws.{fields-step, step-found, end-here, end-later}
-use Rattle.layout.specs.Layout.{evened}
-use Rattle.trip.proofs.Sections.{length-headed, headed-byte, headed-number}
+use Rattle.header.proofs.Laws.{along, fields-step, end-here, end-later}
 
 -- a field moved on
 abbrev pub moved : Field → Field
@@ -65,53 +65,45 @@ unfolding fieldsEnd
 end-moved at [] = refl
 end-moved at (f ∷ fs) = end-moved (f .end) fs
 
-each-moved : (n k : ℕ) (p q : ℕ → Bool) → ((i : ℕ) → p (16 + i) ≡ q i) → each n (16 + k) p ≡ each n k q
-unfolding each
-each-moved zero k p q h = refl
-each-moved (suc n) k p q h = let e : 16 + k + 1 ≡ 16 + (k + 1) = omega arith in rw (h k, e, each-moved n (k + 1) p q h)
+-- ---- data s that stand in r behind a header
 
--- ---- data s behind a header h
-
-module _ (h : List ℕ) (head : length h ≡ 16) (s : List ℕ) where
-  field-moved : (at : ℕ) → fieldAt (h ++ evened s) (16 + at) ≡ moved (fieldAt s at)
+module _ {r s : List ℕ} (m : Moved r 16 s) where
+  field-moved : (at : ℕ) → fieldAt r (16 + at) ≡ moved (fieldAt s at)
   unfolding fieldAt
   field-moved at =
-      let e = rw (← add-assoc 16 at 1) at (headed-number h head s 2 (at + 1)) in
+      let e = rw (← add-assoc 16 at 1) at (moved-number m 2 (at + 1)) in
       let a : 16 + at + 3 ≡ 16 + (at + 3) = omega arith in
       let b : 16 + (at + 3) + numberAt 2 s (at + 1) ≡ 16 + (at + 3 + numberAt 2 s (at + 1)) = omega arith in
-      rw (headed-byte h head s at, e, a, b)
+      rw (m .byte at, e, a, b)
 
   -- a whole field is one there too
-  whole-moved : (at : ℕ) → isField s at ≡ true → isField (h ++ evened s) (16 + at) ≡ true
+  whole-moved : (at : ℕ) → isField s at ≡ true → isField r (16 + at) ≡ true
   unfolding isField
   whole-moved at g =
       let n = numberAt 2 s (at + 1) in
       let p = and-eq-true-iff (leb (at + 3) (length s)) (not (eqb (byteAt s at) 255) && leb (at + 3 + n) (length s)) .0 g in
       let q = and-eq-true-iff (not (eqb (byteAt s at) 255)) (leb (at + 3 + n) (length s)) .0 (p .1) in
-      let e = rw (← add-assoc 16 at 1) at (headed-number h head s 2 (at + 1)) in
-      let l = length-headed h head s in
-      let a = le-leb (16 + at + 3) (length (h ++ evened s)) (omega (arith, leb-true (at + 3) (length s) (p .0))) in
-      let b = le-leb (16 + at + 3 + n) (length (h ++ evened s)) (omega (arith, leb-true (at + 3 + n) (length s) (q .1))) in
-      rw (headed-byte h head s at, e, a, b, q .0)
+      let e = rw (← add-assoc 16 at 1) at (moved-number m 2 (at + 1)) in
+      let a = le-leb (16 + at + 3) (length r) (omega (arith, m .least, leb-true (at + 3) (length s) (p .0))) in
+      let b = le-leb (16 + at + 3 + n) (length r) (omega (arith, m .least, leb-true (at + 3 + n) (length s) (q .1))) in
+      rw (m .byte at, e, a, b, q .0)
 
   -- a step that shows a field shows it there
-  step-moved : (at : ℕ) (f : Field) → stepAt s at ≡ Found f → stepAt (h ++ evened s) (16 + at) ≡ Found (moved f)
+  step-moved : (at : ℕ) (f : Field) → stepAt s at ≡ Found f → stepAt r (16 + at) ≡ Found (moved f)
   unfolding stepAt
   step-moved at f g = go (isField s at) refl g
     where
       go : (b : Bool) → isField s at ≡ b → cond b (Found (fieldAt s at)) End ≡ Found f
-          → cond (isField (h ++ evened s) (16 + at)) (Found (fieldAt (h ++ evened s) (16 + at))) End ≡ Found (moved f)
+          → cond (isField r (16 + at)) (Found (fieldAt r (16 + at))) End ≡ Found (moved f)
       go true e g = let same : fieldAt s at ≡ f = cc in rw (whole-moved at e, field-moved at, same)
-      go false e g = let z : _≡_ {A = ℕ} 0 1 = cc in absurd (omega arith)
+      go false e g = unlike cc
 
   -- at an end mark no field stands
-  step-end : (at : ℕ) → byteAt s at ≡ 255 → stepAt (h ++ evened s) (16 + at) ≡ End
+  step-end : (at : ℕ) → byteAt s at ≡ 255 → stepAt r (16 + at) ≡ End
   unfolding stepAt isField
-  step-end at e =
-      let l = length-headed h head s in
-      rw (headed-byte h head s at, e) (go (leb (16 + at + 3) (length (h ++ evened s))))
+  step-end at e = rw (m .byte at, e) (go (leb (16 + at + 3) (length r)))
     where
-      go : (b : Bool) → cond (b && false) (Found (fieldAt (h ++ evened s) (16 + at))) End ≡ End
+      go : (b : Bool) → cond (b && false) (Found (fieldAt r (16 + at))) End ≡ End
       go true = refl
       go false = refl
 
@@ -121,48 +113,36 @@ module _ (h : List ℕ) (head : length h ≡ 16) (s : List ℕ) where
       eqb-true (byteAt s at) 255 (and-eq-true-iff (eqb (byteAt s at) 255) (eqb (numberAt 2 s (at + 1)) 0 && endsBy 0 s (at + 3)) .0 e .0)
 
   -- where the fields from a place on end at an end mark, those behind the header are the same, moved on
-  Moved : ℕ → Type 0
-  Moved at =
-      endsAt 0 s (fieldsEnd at (fieldsFrom s at)) ≡ true → fieldsFrom (h ++ evened s) (16 + at) ≡ map moved (fieldsFrom s at)
+  abbrev Same : ℕ → Type 0
+  Same at = endsAt 0 s (fieldsEnd at (fieldsFrom s at)) ≡ true → fieldsFrom r (16 + at) ≡ map moved (fieldsFrom s at)
 
-  fields-turn : (at : ℕ) → ((f : Field) → stepAt s at ≡ Found f → Moved (f .end)) → Moved at
-  unfolding Moved
+  fields-turn : (at : ℕ) → ((f : Field) → stepAt s at ≡ Found f → Same (f .end)) → Same at
   fields-turn at later e = go (stepAt s at) refl
     where
-      go : (t : Step) → stepAt s at ≡ t → fieldsFrom (h ++ evened s) (16 + at) ≡ map moved (fieldsFrom s at)
+      go : (t : Step) → stepAt s at ≡ t → fieldsFrom r (16 + at) ≡ map moved (fieldsFrom s at)
       go End g =
           let z = step-end at (mark-there at (rw (end-here s at g) at e)) in
-          rw (fields-step s at, fields-step (h ++ evened s) (16 + at), g, z)
+          rw (fields-step s at, fields-step r (16 + at), g, z)
       go (Found f) g =
           let z = step-moved at f g in
-          rw (fields-step s at, fields-step (h ++ evened s) (16 + at), g, z)
+          rw (fields-step s at, fields-step r (16 + at), g, z)
           (ap (λ (l : List Field). moved f ∷ l) (later f g (rw (end-later s at f g) at e)))
 
-  fields-within : (n at : ℕ) → length s - at ≤ n → Moved at
-  fields-within zero at l = fields-turn at (λ f e. let w = step-found s at f e in absurd (omega arith))
-  fields-within (suc n) at l = fields-turn at (λ f e. let w = step-found s at f e in fields-within n (f .end) (omega arith))
-
-  pub fields-moved : endsAt 0 s (fieldsEnd 0 (fieldsFrom s 0)) ≡ true → fieldsFrom (h ++ evened s) 16 ≡ map moved (fieldsFrom s 0)
-  unfolding Moved
-  fields-moved e = fields-within (length s) 0 (omega arith) e
+  pub fields-moved : endsAt 0 s (fieldsEnd 0 (fieldsFrom s 0)) ≡ true → fieldsFrom r 16 ≡ map moved (fieldsFrom s 0)
+  fields-moved = along s Same fields-turn 0
 
   -- the end mark, with the spare byte behind it
-  ends-moved : (at : ℕ) → endsAt 0 s at ≡ true → endsAt 1 (h ++ evened s) (16 + at) ≡ true
-  unfolding endsAt endsBy
+  ends-moved : (at : ℕ) → endsAt 0 s at ≡ true → endsAt 1 r (16 + at) ≡ true
+  unfolding endsAt
   ends-moved at g =
       let p = and-eq-true-iff (eqb (byteAt s at) 255) (eqb (numberAt 2 s (at + 1)) 0 && endsBy 0 s (at + 3)) .0 g in
       let q = and-eq-true-iff (eqb (numberAt 2 s (at + 1)) 0) (endsBy 0 s (at + 3)) .0 (p .1) in
-      let w = and-eq-true-iff (leb (at + 3) (length s)) (leb (length s) (at + 3 + 0)) .0 (q .1) in
-      let low = leb-true (at + 3) (length s) (w .0) in
-      let top = leb-true (length s) (at + 3 + 0) (w .1) in
-      let l = length-headed h head s in
-      let e = rw (← add-assoc 16 at 1) at (headed-number h head s 2 (at + 1)) in
-      let a = le-leb (16 + at + 3) (length (h ++ evened s)) (omega arith) in
-      let b = le-leb (length (h ++ evened s)) (16 + at + 3 + 1) (omega arith) in
-      rw (headed-byte h head s at, e, p .0, q .0, a, b)
+      let e = rw (← add-assoc 16 at 1) at (moved-number m 2 (at + 1)) in
+      let end = rw (← add-assoc 16 at 3) at (moved-end m (at + 3) (q .1)) in
+      rw (m .byte at, e, p .0, q .0, end)
 
   -- the tags' rules
-  identifier-moved : (f : Field) → isIdentifier s f ≡ true → isIdentifier (h ++ evened s) (moved f) ≡ true
+  identifier-moved : (f : Field) → isIdentifier s f ≡ true → isIdentifier r (moved f) ≡ true
   unfolding isIdentifier allIn
   identifier-moved f g =
       let last = eqb (byteAt s (f .end - 1)) 0 in
@@ -174,15 +154,15 @@ module _ (h : List ℕ) (head : length h ≡ 16) (s : List ℕ) where
       let end : 16 + f .end - 1 ≡ 16 + (f .end - 1) = omega arith in
       let count : 16 + (f .end - 1) - (16 + f .start) ≡ f .end - 1 - f .start = omega arith in
       let each-one =
-      each-moved (f .end - 1 - f .start) (f .start) (λ i. not (eqb (byteAt (h ++ evened s) i) 0)) (λ i. not (eqb (byteAt s i) 0))
-      (λ i. ap (λ (b : ℕ). not (eqb b 0)) (headed-byte h head s i)) in
-      rw (size, end, count, each-one, headed-byte h head s (f .end - 1), p .0) q
+      each-moved 16 (f .end - 1 - f .start) (f .start) (λ i. not (eqb (byteAt r i) 0)) (λ i. not (eqb (byteAt s i) 0))
+      (λ i. ap (λ (b : ℕ). not (eqb b 0)) (m .byte i)) in
+      rw (size, end, count, each-one, m .byte (f .end - 1), p .0) q
 
   size-moved : (n : ℕ) (f : Field) → hasSize n f ≡ true → hasSize n (moved f) ≡ true
   unfolding hasSize
   size-moved n f g = let size : 16 + f .end - (16 + f .start) ≡ f .end - f .start = omega arith in rw size g
 
-  tags-moved : (fs : List Field) → tagsRight s fs ≡ true → tagsRight (h ++ evened s) (map moved fs) ≡ true
+  tags-moved : (fs : List Field) → tagsRight s fs ≡ true → tagsRight r (map moved fs) ≡ true
   unfolding tagsRight
   tags-moved fs g =
       let two = keeps (isIdentifier s) (sole (withTag 2 fs)) in
@@ -192,7 +172,7 @@ module _ (h : List ℕ) (head : length h ≡ 16) (s : List ℕ) where
       let p = and-eq-true-iff two (fourteen && (five && six)) .0 g in
       let q = and-eq-true-iff fourteen (five && six) .0 (p .1) in
       let w = and-eq-true-iff five six .0 (q .1) in
-      let a = keeps-moved (isIdentifier s) (isIdentifier (h ++ evened s)) identifier-moved (sole (withTag 2 fs)) (p .0) in
+      let a = keeps-moved (isIdentifier s) (isIdentifier r) identifier-moved (sole (withTag 2 fs)) (p .0) in
       let b = keeps-moved anyField anyField (λ f e. refl) (sole (withTag 14 fs)) (q .0) in
       let c = keeps-moved (hasSize 4) (hasSize 4) (size-moved 4) (sole (withTag 25 fs)) (w .0) in
       let d = keeps-moved (hasSize 3) (hasSize 3) (size-moved 3) (sole (withTag 26 fs)) (w .1) in
@@ -204,7 +184,7 @@ module _ (h : List ℕ) (head : length h ≡ 16) (s : List ℕ) where
   mark-kept g = and-eq-true-iff (endsAt 0 s (fieldsEnd 0 (fieldsFrom s 0))) (tagsRight s (fieldsFrom s 0)) .0 g .0
 
   -- data that keep their rule keep it behind a header
-  pub section1-moved : section1Right 0 s 0 ≡ true → section1Right 1 (h ++ evened s) 16 ≡ true
+  pub section1-moved : section1Right 0 s 0 ≡ true → section1Right 1 r 16 ≡ true
   unfolding section1Right
   section1-moved g =
       let p = and-eq-true-iff (endsAt 0 s (fieldsEnd 0 (fieldsFrom s 0))) (tagsRight s (fieldsFrom s 0)) .0 g in
@@ -213,6 +193,6 @@ module _ (h : List ℕ) (head : length h ≡ 16) (s : List ℕ) where
 
   -- and each field stands there as in the data
   pub occurring-there : section1Right 0 s 0 ≡ true → (n t : ℕ)
-      → occurring n (withTag t (fieldsFrom (h ++ evened s) 16)) ≡ movedStep (occurring n (withTag t (fieldsFrom s 0)))
+      → occurring n (withTag t (fieldsFrom r 16)) ≡ movedStep (occurring n (withTag t (fieldsFrom s 0)))
   occurring-there g n t =
       rw (fields-moved (mark-kept g), tag-moved t (fieldsFrom s 0)) (occurring-moved n (withTag t (fieldsFrom s 0)))

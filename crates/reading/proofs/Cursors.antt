@@ -1,0 +1,243 @@
+-- A cursor's steps: values held with 131,072 added, the search for a structure's form, and what a form that was found says. Assumes
+-- nothing.
+use Prim.Native.Nat.{ℕ, zero, suc, _+_, _-_, _*_, _/_, _%_, _^_, _≤_, _<_}
+use mathlib.Core.Path.{_≡_, refl, sym, ap, _∙_}
+use mathlib.Core.Bool.{true, false}
+use mathlib.Core.List.{List, [], _∷_}
+use mathlib.Core.Logic.{_⊎_, inl, inr}
+use mathlib.Core.Option.{Option, none, some}
+use native.Mathlib.Nat.{mod-lt, pow-suc}
+use native.Mathlib.Decide.{decLt}
+use native.Mathlib.Omega.{arith}
+use borrow.Author.Tests.{lt-ltb, le-ltb, ne-eqb}
+use lib.IntN.{negsuc}
+use lib.ListN.{length, getD, drop, length-drop, drop-of-length-le, List·getD-eq-default}
+use lib.Pow.{pow-pos, pow-mono, shr-lt}
+use lib.Seq.{drop-cons, drop-drop}
+use Rattle.wire.proofs.Laws.{unlike}
+use Rattle.bits.specs.Bits.{signed, begins, bitsIn}
+use Rattle.bits.specs.InnerRaised.{lower}
+use Rattle.bits.specs.InnerWindow.{Window}
+use Rattle.bits.proofs.Laws.{length-bitsIn, small-drop, small-bitsIn}
+use Rattle.tables.specs.declared.Structure.{Structure}
+use Rattle.tables.specs.Structures.{noStructure, prefixOf, remainderOf, structureRight, every}
+use Rattle.tables.specs.Section2.{tableOf, tableRight}
+use Rattle.tables.proofs.Laws.{fine}
+use Rattle.compiled.specs.declared.Form.{Form}
+use Rattle.compiled.specs.InnerForm.{lowest, formOf, Ready, Holding}
+use Rattle.compiled.proofs.Laws.{FineForm, form-fine, held-right}
+use Rattle.reading.specs.Reading.{stuck, matching, valueOf, readWithin, readCoded, readPlain, readNext}
+use Rattle.reading.specs.InnerCursor.{Seen, formed, Onward, OnwardOf}
+use Rattle.reading.specs.declared.Read.{Read}
+use Rattle.reading.specs.declared.Read.the-variants.{Value, Stuck}
+use Rattle.reading.specs.declared.Burst.{Burst}
+use Rattle.reading.specs.declared.Burst.the-variants.{Ended, More}
+use Rattle.reading.proofs.Laws.{matched, table-at, read-switch, read-value, read-none, next-coded, to-value, to-switch}
+
+-- ---- two's complement, 131,072 added
+
+-- a number of the lower half
+pub lower-low : (w n : ℕ) → n < 2 ^ w → lower 131072 (131072 + n) ≡ signed (suc w) n
+unfolding lower signed
+lower-low w n h =
+    let e : suc w - 1 ≡ w = omega arith in
+    let back : 131072 + n - 131072 ≡ n = omega arith in
+    simp (e, lt-ltb n (2 ^ w) h, le-ltb (131072 + n) 131072 (omega arith), back)
+
+-- a number of the upper half
+pub lower-high : (w n : ℕ) → 2 ^ w ≤ n → n < 2 * 2 ^ w → 2 ^ w ≤ 65536 → lower 131072 (131072 + n - 2 * 2 ^ w) ≡ signed (suc w) n
+unfolding lower signed
+lower-high w n h g l =
+    let e : suc w - 1 ≡ w = omega arith in
+    let x = 131072 + n - 2 * 2 ^ w in
+    let back : 131072 - suc x ≡ 2 ^ suc w - suc n = rw (pow-suc 2 w) (omega arith) in
+    simp (e, le-ltb n (2 ^ w) h, lt-ltb x 131072 (omega arith)) (ap negsuc back)
+
+-- a base value
+pub lower-base : (base : ℕ) → base < 65536 → lower 131072 (lowest base 0) ≡ signed 16 base
+lower-base base h = go (decLt base 32768)
+  where
+    go : Dec (base < 32768) → lower 131072 (lowest base 0) ≡ signed 16 base
+    go (yes l) = let e : lowest base 0 ≡ 131072 + base = omega arith in rw e (lower-low 15 base l)
+    go (no l) =
+        let e : lowest base 0 ≡ 131072 + base - 2 * 2 ^ 15 = omega arith in
+        rw e (lower-high 15 base (omega arith) (omega arith) (omega arith))
+
+-- the highest q bits of 64 are a number below 2 ^ q
+pub high-small : (x q : ℕ) → q ≤ 64 → x % 2 ^ 64 / 2 ^ (64 - q) < 2 ^ q
+high-small x q h =
+    let e : q + (64 - q) ≡ 64 = omega arith in
+    shr-lt q (64 - q) (rw e (mod-lt x (pow-pos 64)))
+
+-- ---- the bits that are left of a stream
+
+-- so many are left from a place on
+pub length-left : (s : List ℕ) (at : ℕ) → length (drop at (bitsIn s)) ≡ length s * 8 - at
+length-left s at = simp (length-drop, length-bitsIn)
+
+-- they are seen through their window
+pub seen-left : (s : List ℕ) (at w : ℕ) → Window (drop at (bitsIn s)) w → Seen (drop at (bitsIn s)) w (length s * 8 - at)
+seen-left s at w h = record { window = h; small = small-drop at (bitsIn s) (small-bitsIn s); count = length-left s at }
+
+-- ---- the search
+
+-- what the structure at k and those behind it match
+module _ (cs : List Structure) (bs : List ℕ) (k : ℕ) (h : k < length cs) where
+  -- the bits begin with its prefix
+  pub matching-here : begins (prefixOf (getD cs k noStructure)) bs ≡ true → matching (drop k cs) bs ≡ some (getD cs k noStructure)
+  unfolding matching
+  matching-here e = rw (drop-cons cs k noStructure h, e)
+
+  -- they do not, so those behind it decide
+  pub matching-behind : begins (prefixOf (getD cs k noStructure)) bs ≡ false → matching (drop k cs) bs ≡ matching (drop (suc k) cs) bs
+  unfolding matching
+  matching-behind e = rw (drop-cons cs k noStructure h, e)
+
+-- no structure is left
+pub matching-end : (cs : List Structure) (bs : List ℕ) (k : ℕ) → length cs ≤ k → matching (drop k cs) bs ≡ none
+unfolding matching
+matching-end cs bs k h = rw (drop-of-length-le cs h)
+
+-- what was found is the form of a structure that is matched
+found-some : (m : Option Structure) (f : Form) → some f ≡ formed m → (c : Structure) × (m ≡ some c) × (formOf c ≡ f)
+found-some none f h = unlike cc
+found-some (some c) f h = let e : formOf c ≡ f = cc in (c, refl, e)
+
+-- no form comes of no structure alone
+none-formed : (m : Option Structure) → none ≡ formed m → m ≡ none
+none-formed none h = refl
+none-formed (some c) h = cc
+
+-- a form that is that of a right structure, which is matched in a table
+pub record FoundForm (tables : List (List Structure)) (table : ℕ) (bs : List ℕ) (f : Form) : Type 0 where
+  pub structure : Structure
+  pub match : matching (tableOf tables table) bs ≡ some structure
+  pub form : formOf structure ≡ f
+  pub right : structureRight 8 structure ≡ true
+  pub small : structure .base < 65536
+  pub fine : FineForm f
+  pub long : f .prefix ≤ length bs
+
+-- a form that was found is such a one
+pub found-form : {tables : List (List Structure)} {tab : List ℕ} → Ready tables tab → (table : ℕ) → 1 ≤ table → table ≤ 8
+    → (bs : List ℕ) (f : Form) → some f ≡ formed (matching (getD tables (table - 1) []) bs) → FoundForm tables table bs f
+unfolding formOf
+found-form {tables} ready table h g bs f found =
+    let t = table - 1 in
+    let l : t < 8 = omega arith in
+    let cs = getD tables t [] in
+    let d = found-some (matching cs bs) f found in
+    let m = matched cs bs (d .0) (d .1) in
+    let right = rw (m .stands) at (held-right ready t l (m .place) (omega (arith, m .there, ready .says t l .count))) in
+    record {
+      structure = d .0;
+      match = rw (table-at tables table h) (d .1);
+      form = d .2;
+      right = right;
+      small = rw (m .stands) at (ready .twoBytes t (m .place));
+      fine = rw (← d .2) (form-fine 8 (d .0) (omega arith) right);
+      long = rw (← d .2) (m .long);
+    }
+
+module _ {tables : List (List Structure)} {table : ℕ} {f : Form} (right : every (tableRight (length tables)) tables ≡ true) where
+  -- the form of a value ends the step
+  pub read-form : {bs : List ℕ} (d : FoundForm tables table bs f) → f .to ≡ 0
+      → readCoded tables table bs
+      ≡ valueOf (remainderOf (d .structure)) (d .structure .base) table (drop (d .structure .prefix) bs)
+  read-form {bs} d h =
+      read-value (length tables) tables right table bs (d .structure) (d .match)
+      (to-value 8 (d .structure) (d .right) (ap (λ (x : Form). x .to) (d .form) ∙ h))
+
+  -- the form of a switch carries on
+  pub read-on : (at : ℕ) (l : List ℕ) → FoundForm tables table (drop at l) f → (f .to ≡ 0 → ⊥)
+      → readCoded tables table (drop at l) ≡ readCoded tables (f .to) (drop (at + f .prefix) l)
+  unfolding formOf
+  read-on at l d h =
+      let to = ap (λ (x : Form). x .to) (d .form) in
+      let s = to-switch (d .structure) (λ e. h (sym to ∙ e)) in
+      let p : d .structure .prefix ≡ f .prefix = ap (λ (x : Form). x .prefix) (d .form) in
+      read-switch (length tables) tables right table (drop at l) (d .structure) (d .match) (s .0)
+      ∙ rw (s .1 ∙ to, drop-drop (d .structure .prefix) at l, p)
+
+-- nothing was found, so nothing is matched
+pub found-none : (tables : List (List Structure)) (table : ℕ) (bs : List ℕ) → 1 ≤ table
+    → none ≡ formed (matching (getD tables (table - 1) []) bs) → matching (tableOf tables table) bs ≡ none
+found-none tables table bs h found = rw (table-at tables table h) (none-formed (matching (getD tables (table - 1) []) bs) found)
+
+-- ---- what a value's form says
+
+-- what a value's form says of its structure
+pub record ValueForm (d : Structure) (f : Form) : Type 0 where
+  pub prefix : d .prefix ≡ f .prefix
+  pub rest : remainderOf d ≡ f .remainder
+  pub lo : f .lo ≡ lowest (d .base) (f .remainder)
+  pub fine : FineForm f
+
+-- so says the form of a right structure that leads nowhere
+pub value-form : (d : Structure) (f : Form) → formOf d ≡ f → structureRight 8 d ≡ true → f .to ≡ 0 → ValueForm d f
+unfolding formOf
+value-form d f e right h =
+    let m = to-value 8 d right (ap (λ (x : Form). x .to) e ∙ h) in
+    let plain = ne-eqb (d .mode) 0 m in
+    record {
+      prefix = ap (λ (x : Form). x .prefix) e;
+      rest = ap (λ (x : Form). x .remainder) e;
+      lo = rw (← e, plain);
+      fine = rw (← e) (form-fine 8 d (omega arith) right);
+    }
+
+-- the least value that a remainder serves is half of its numbers below 131,072
+half-of : (base q : ℕ) → (q ≡ 0 → ⊥) → q ≤ 16
+    → (w : ℕ) × (q ≡ suc w) × (131072 - lowest base q ≡ 2 ^ w) × (lowest base q ≤ 131072) × (2 ^ w ≤ 32768)
+half-of base zero h g = absurd (h refl)
+half-of base (suc w) h g = let l = pow-mono {i = w} {j = 15} (omega arith) in (w, refl, omega arith, omega arith, omega arith)
+
+-- so is that of a value's form
+pub rest-half : {d : Structure} {f : Form} → ValueForm d f → (f .remainder ≡ 0 → ⊥)
+    → (w : ℕ) × (f .remainder ≡ suc w) × (131072 - f .lo ≡ 2 ^ w) × (f .lo ≤ 131072) × (2 ^ w ≤ 32768)
+rest-half {d} {f} v h = rw (v .lo) (half-of (d .base) (f .remainder) h (v .fine .rest))
+
+-- ---- the next value of a stream
+
+-- past the end of the bits there is none
+pub next-past : (tables : List (List Structure)) (table at : ℕ) (s : List ℕ) → length s * 8 < at
+    → readNext tables table (drop at (bitsIn s)) ≡ stuck
+unfolding readNext readPlain readCoded readWithin
+next-past tables table at s h =
+    let past : length (bitsIn s) ≤ at = omega (arith, length-bitsIn s) in
+    rw (drop-of-length-le (bitsIn s) past) (go tables)
+  where
+    go : (l : List (List Structure)) → readNext l table [] ≡ stuck
+    go [] = refl
+    go (t ∷ ts) = refl
+
+-- no numbers hold no tables, so that a value is two bytes
+pub next-plain : (tables : List (List Structure)) (tab : List ℕ) → Holding tables tab → length tab ≡ 0
+    → (table : ℕ) (bs : List ℕ) → readNext tables table bs ≡ readPlain table bs
+unfolding readNext
+next-plain tables tab (inl ready) e table bs = absurd (omega (arith, ready .room))
+next-plain tables tab (inr empty) e table bs = rw (empty .0)
+
+-- not in a table that is not there
+pub next-outside : {tables : List (List Structure)} {tab : List ℕ} → Ready tables tab → (table : ℕ) (bs : List ℕ)
+    → (table < 1) ⊎ (8 < table) → readNext tables table bs ≡ stuck
+unfolding tableOf matching
+next-outside {tables} ready table bs h =
+    next-coded tables (ready .some) table bs ∙ read-none (length tables) tables (ready .right) table bs (go table h)
+  where
+    go : (n : ℕ) → (n < 1) ⊎ (8 < n) → matching (tableOf tables n) bs ≡ none
+    go zero h = refl
+    go (suc n) (inl h) = absurd (omega arith)
+    go (suc n) (inr h) = rw (List·getD-eq-default tables [] {n = n} (omega (arith, ready .most)))
+
+-- ---- cursors that are further on
+
+-- what is further on than a place is further on than one before
+pub onward-from : (a b n : ℕ) → a ≤ b → (r : Read) → Onward b n r → Onward a n r
+onward-from a b n h (Value x c) o = omega arith
+onward-from a b n h Stuck o = tt
+
+-- so is a burst
+pub onward-of-from : (a b n : ℕ) → a ≤ b → (r : Burst) → OnwardOf b n r → OnwardOf a n r
+onward-of-from a b n h (Ended r) o = onward-from a b n h r o
+onward-of-from a b n h (More c) o = omega arith
