@@ -92,6 +92,19 @@ class Numbers(Case):
             for wrong in [None, 1.0, "1", b"1"]:
                 self.assertRaises(TypeError, call, wrong)
 
+    def test_whole_numbers_of_other_types(self):
+        class Two:
+            def __index__(self) -> int:
+                return 2
+
+        record = tigmavresh.open(sample("beat"))
+        self.assertEqual(record.field(Two()), record.field(2))
+        self.assertEqual(record.fields(Two()), record.fields(2))
+        self.assertEqual(record.entry(Two()), record.entry(2))
+        self.assertEqual(record.lead(Two()).samples.tolist(), record.lead(2).samples.tolist())
+        self.assertEqual(tigmavresh.breaks(sample("refused-2"), Two()), True)
+        self.assertEqual(tigmavresh.encode([1, 2], Two()), tigmavresh.encode([1, 2], 2))
+
     def test_the_words_name_the_number(self):
         with self.assertRaisesRegex(OverflowError, "^tag: 256 is outside 0 to 255$"):
             tigmavresh.open(sample("7")).field(256)

@@ -90,21 +90,25 @@ class Record:
     """A record that was opened. Iterating over it walks over its header fields, in the order that they stand in."""
 
     def __init__(self, data: Bytes) -> None:
-        self.data = bytes_of(data)
-        """The record's bytes."""
+        self._data = bytes_of(data)
         room = (ctypes.c_uint32 * SCP_POINTERS_ROOM)()
-        opened = scp.scp_open(self.data, len(self.data), room)
+        opened = scp.scp_open(self._data, len(self._data), room)
         check(opened.refusal)
         self.pointers = tuple(Pointer(*room[at : at + 3]) for at in range(0, 3 * opened.count, 3))
         """The pointers of Section 0, as they are stored."""
 
+    @property
+    def data(self) -> bytes:
+        """The record's bytes."""
+        return self._data
+
     def __repr__(self) -> str:
-        return f"<Record of {len(self.data)} bytes, {len(self.pointers)} pointers>"
+        return f"<Record of {len(self._data)} bytes, {len(self.pointers)} pointers>"
 
     def __iter__(self) -> Iterator[Field]:
-        part = scp.scp_walk_start(self.data, len(self.data))
+        part = scp.scp_walk_start(self._data, len(self._data))
         check(part.refusal)
-        section = self.data[part.start : part.start + part.length]
+        section = self._data[part.start : part.start + part.length]
         step = scp.scp_walk_step(section, len(section), _FIRST_FIELD)
         while step.more:
             yield Field(step.tag, section[step.start : step.start + step.length])
@@ -112,9 +116,9 @@ class Record:
 
     def field(self, tag: int, occurrence: int = 1) -> bytes:
         """The bytes of one field. Refused with 10 if there is none; tag 255 is the end mark, and no field."""
-        part = scp.scp_field(self.data, len(self.data), number("tag", tag, 8), size("occurrence", occurrence))
+        part = scp.scp_field(self._data, len(self._data), number("tag", tag, 8), size("occurrence", occurrence))
         check(part.refusal)
-        return self.data[part.start : part.start + part.length]
+        return self._data[part.start : part.start + part.length]
 
     def fields(self, tag: int) -> list[bytes]:
         """The bytes of every field with this tag, in the order that they stand in; there may be none."""
@@ -123,7 +127,7 @@ class Record:
 
     def entry(self, place: int) -> Entry:
         """What the record says of the lead at a place, from 1, judged as reading is: refused with 7 to 10."""
-        said = scp.scp_lead(self.data, len(self.data), size("place", place))
+        said = scp.scp_lead(self._data, len(self._data), size("place", place))
         check(said.refusal)
         return Entry(*(getattr(said, name) for name in Entry._fields))
 
@@ -134,10 +138,11 @@ class Record:
 
     def lead(self, place: int) -> Lead:
         """The lead at a place, from 1, with all its samples. Refused with 7 to 10 and 12 to 14."""
+        place = size("place", place)
         entry = self.entry(place)
         room = (ctypes.c_int16 * (entry.last - entry.first + 1))()
         work = (ctypes.c_int16 * (SCP_SAMPLES_MAX if entry.flags & _BEAT else 0))()
-        lead = scp.scp_read_lead(self.data, len(self.data), place, room, len(room), work, len(work))
+        lead = scp.scp_read_lead(self._data, len(self._data), place, room, len(room), work, len(work))
         check(lead.refusal)
         return Lead(lead.id, lead.first, lead.step, lead.interval, lead.flags, _samples(room))
 
