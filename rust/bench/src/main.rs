@@ -1,12 +1,15 @@
-//! Measures the proved library beside the same work in plain Rust: `cargo run --release --package bench`.
+//! Measures the proved library beside the same work in plain Rust: `rust/bench/run`.
 //!
 //! Both sides of a line do their work in turns, in one process, and the medians of all rounds are shown with their ratio.
 //! What they answer is held to be the same before anything is measured. Nothing is asserted of the times.
 
+mod biosig;
 mod encoding;
+mod folder;
 mod measure;
 mod plain;
 mod reading;
+mod scratch;
 
 use clap::{Parser, ValueEnum};
 
@@ -20,6 +23,9 @@ struct Cli {
     /// How many rounds each line has
     #[arg(long, value_name = "N", default_value_t = 41)]
     rounds: usize,
+    /// How the tool is run, the words of it with blanks between
+    #[arg(long, value_name = "WORDS", default_value = "")]
+    tool: String,
 }
 
 /// A part of the benchmark.
@@ -27,12 +33,16 @@ struct Cli {
 enum Part {
     /// A record of 12 leads: opening it, and reading all leads
     Record,
+    /// The same beside biosig, if it is installed
+    Biosig,
     /// The check of 1 MiB
     Crc,
     /// A long lead by tables of the record's own
     Engine,
     /// Encoding a lead
     Encoding,
+    /// A folder of 2,000 records through the tool's `check`
+    Folder,
 }
 
 fn main() {
@@ -42,6 +52,9 @@ fn main() {
     if is_asked(Part::Record) {
         reading::record(&mut table);
     }
+    if is_asked(Part::Biosig) {
+        biosig::all(&mut table);
+    }
     if is_asked(Part::Crc) {
         reading::crc(&mut table);
     }
@@ -50,5 +63,9 @@ fn main() {
     }
     if is_asked(Part::Encoding) {
         encoding::all(&mut table);
+    }
+    if is_asked(Part::Folder) {
+        let words: Vec<String> = cli.tool.split_whitespace().map(String::from).collect();
+        folder::all(&mut table, &words);
     }
 }

@@ -1,7 +1,7 @@
 //! Measuring two ways to do the same work, side by side.
 //!
 //! The time is what the processor spent on this thread, so that other programs on the same machine take less away from the
-//! figures.
+//! figures; where other processes do the work, it is the time that passed.
 
 use std::ffi::{c_int, c_long};
 
@@ -14,6 +14,15 @@ const FEW: usize = 5;
 /// Lines of what was measured, shown as they come.
 pub struct Table {
     rounds: usize,
+}
+
+/// What is looked at before and after the work.
+#[derive(Clone, Copy)]
+pub enum Clock {
+    /// The time that the processor has spent on this thread, `CLOCK_THREAD_CPUTIME_ID` of Linux.
+    Thread = 3,
+    /// The time that has passed, `CLOCK_MONOTONIC` of Linux.
+    Wall = 1,
 }
 
 impl Table {
@@ -31,20 +40,32 @@ impl Table {
     pub fn line(
         &mut self,
         name: &str,
+        amount: (usize, &str),
+        library: impl FnMut(),
+        plain: impl FnMut(),
+    ) {
+        self.line_by(Clock::Thread, name, amount, library, plain);
+    }
+
+    /// The same by a clock.
+    pub fn line_by(
+        &mut self,
+        clock: Clock,
+        name: &str,
         (amount, unit): (usize, &str),
         mut library: impl FnMut(),
         mut plain: impl FnMut(),
     ) {
-        let times = [times_a_round(&mut library), times_a_round(&mut plain)];
-        let once = time(&mut library, 1) + time(&mut plain, 1);
-        let number = match once > LONG {
+        let (times, once) = times_a_round(clock, &mut library);
+        let (plain_times, plain_once) = times_a_round(clock, &mut plain);
+        let number = match once + plain_once > LONG {
             true => self.rounds.min(FEW),
             false => self.rounds,
         };
         let mut rounds = [Vec::new(), Vec::new()];
         for _ in 0..number {
-            rounds[0].push(time(&mut library, times[0]));
-            rounds[1].push(time(&mut plain, times[1]));
+            rounds[0].push(time(clock, &mut library, times));
+            rounds[1].push(time(clock, &mut plain, plain_times));
         }
         let [library, plain] = rounds.map(median);
         println!(
@@ -55,22 +76,30 @@ impl Table {
             amount as f64 / library / 1e6
         );
     }
+
+    /// Says why a line is left out.
+    pub fn left_out(&mut self, name: &str, why: &str) {
+        println!("{name:<50} left out: {why}");
+    }
 }
 
-/// How often the work is done in a round; it is warm after that.
-fn times_a_round(work: &mut impl FnMut()) -> u32 {
+/// How often the work is done in a round, and the seconds that it takes once; it is warm after that.
+fn times_a_round(clock: Clock, work: &mut impl FnMut()) -> (u32, f64) {
     let mut times = 1;
-    while time(work, times) * f64::from(times) < ROUND {
+    loop {
+        let once = time(clock, work, times);
+        if once * f64::from(times) >= ROUND {
+            return (times, once);
+        }
         times *= 2;
     }
-    times
 }
 
 /// The seconds that the work takes once, if it is done so many times.
-fn time(work: &mut impl FnMut(), times: u32) -> f64 {
-    let start = now();
+fn time(clock: Clock, work: &mut impl FnMut(), times: u32) -> f64 {
+    let start = now(clock);
     (0..times).for_each(|_| work());
-    (now() - start) / f64::from(times)
+    (now(clock) - start) / f64::from(times)
 }
 
 /// `struct timespec` of C, on a Linux of 64 bits.
@@ -80,22 +109,19 @@ struct Timespec {
     nanoseconds: c_long,
 }
 
-/// `CLOCK_THREAD_CPUTIME_ID` of Linux.
-const THIS_THREAD: c_int = 3;
-
 extern "C" {
     fn clock_gettime(clock: c_int, time: *mut Timespec) -> c_int;
 }
 
-/// The seconds that the processor has spent on this thread.
-fn now() -> f64 {
+/// The seconds on a clock.
+fn now(clock: Clock) -> f64 {
     let mut time = Timespec {
         seconds: 0,
         nanoseconds: 0,
     };
     // SAFETY: the call writes a time to the place that is lent for it, and nothing else.
-    let failed = unsafe { clock_gettime(THIS_THREAD, &mut time) };
-    assert_eq!(failed, 0, "there is no clock for the time of a thread");
+    let failed = unsafe { clock_gettime(clock as c_int, &mut time) };
+    assert_eq!(failed, 0, "there is no such clock");
     time.seconds as f64 + time.nanoseconds as f64 * 1e-9
 }
 

@@ -11,21 +11,25 @@ use scp::SAMPLES_MAX;
 use crate::measure::Table;
 use crate::plain::Crc;
 
-/// Section 1's data: an identifier, a device, a date and a time.
-const FIELDS: [u8; 23] = [
-    2, 4, 0, b'0', b'0', b'7', 0, 14, 0, 0, 25, 4, 0, 0xE9, 7, 3, 14, 26, 3, 0, 9, 26, 53,
+/// Section 1's data: an identifier, a device (no text in it, 7-bit letters, mains of 50 Hz), a date and a time.
+const FIELDS: [u8; 65] = [
+    2, 4, 0, b'0', b'0', b'7', 0, // patient identifier
+    14, 42, 0, 0, 0, 0, 0, 0, 0, 0, 0, 0, 0, 0, 0, 0, 0, 13, 0xA0, 0, 0, 1, 0, 0, 0, 0, 0, 0, 0, 0,
+    0, 0, 0, 0, 0, 0, 0, 0, 1, 0, 0, 0, 0, 0, 0, // recording device
+    25, 4, 0, 0xE9, 7, 3, 14, // date of recording
+    26, 3, 0, 9, 26, 53, // time of recording
 ];
 const END_MARK: [u8; 3] = [255, 0, 0];
 
 /// A record of leads of this many samples each, by these tables.
-fn record_of(leads: usize, count: usize, section2: &[u8], order: u8) -> Vec<u8> {
+pub fn record_of(leads: usize, count: usize, section2: &[u8], order: u8) -> Vec<u8> {
     let all = wave(leads * count);
     let written = judge::write_record(
         &Writing {
             section1: &[&FIELDS[..], &END_MARK].concat(),
             section2,
             version: 13,
-            flags: 0,
+            flags: 4 | (leads as u8) << 3, // recorded together
             step: 5000,
             interval: 2000,
             order,
@@ -124,7 +128,8 @@ pub fn engine(table: &mut Table) {
     }
 }
 
-fn by_library(record: &[u8], place: usize, out: &mut [i16]) {
+/// Has the library read a lead.
+pub fn by_library(record: &[u8], place: usize, out: &mut [i16]) {
     let lead = scp::read_lead(black_box(record), place, out, &mut []);
     black_box(lead.expect("it is sound"));
 }
