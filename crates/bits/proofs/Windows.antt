@@ -9,10 +9,13 @@ use borrow.Author.Tests.{eq-eqb, ne-eqb}
 use lib.Dec.{eqb}
 use lib.ListN.{length, getD, take, drop, replicate, length-take, length-drop, take-append-drop}
 use lib.Pow.{high, low, field, shr-shr, shl-shr}
-use lib.Seq.{drop-cons, drop-drop, drop-nil, drop-append-add, drop-append-le, take-append-add, take-append-le, take-append-seam, length-take-le}
+use lib.Seq.{drop-cons, drop-drop, drop-nil, drop-append-add, drop-append-le}
+use lib.Seq.{take-append-add, take-append-le, take-append-seam, length-take-le}
 use Rattle.bits.specs.Bits.{highBits, lowBits, bitsIn, numberAfter, numberOf, begins}
 use Rattle.bits.specs.InnerWindow.{Window, turned}
-use Rattle.bits.proofs.Laws.{length-lowBits, length-bitsIn, bitsIn-append, Small, small-take, small-drop, small-lowBits, small-bitsIn, number-append, number-after, number-small, number-one, number-high, number-split, begins-append, begins-split}
+use Rattle.bits.proofs.Laws.{length-lowBits, length-bitsIn, bitsIn-append, Small, small-take, small-drop}
+use Rattle.bits.proofs.Laws.{small-lowBits, small-bitsIn, number-append, number-after, number-small, number-one}
+use Rattle.bits.proofs.Laws.{number-high, number-split, begins-append, begins-split}
 
 -- the bits from a byte on are those of the bytes from there on
 bitsIn-drop : (j : ℕ) (s : List ℕ) → drop (j * 8) (bitsIn s) ≡ bitsIn (drop j s)

@@ -114,7 +114,8 @@ withTag-from t s = along s (Named t s) turn
     turn : (at : ℕ) → ((f : Field) → stepAt s at ≡ Found f → Named t s (f .end)) → Named t s at
     turn at later = go (stepAt s at) refl
       where
-        skip : (f : Field) → Whole s at f → withTag t (fieldsFrom s at) ≡ withTag t (fieldsFrom s (f .end)) → Named t s (f .end) → Named t s at
+        skip : (f : Field) → Whole s at f → withTag t (fieldsFrom s at) ≡ withTag t (fieldsFrom s (f .end)) → Named t s (f .end)
+            → Named t s at
         skip f w e (none h) = none (e ∙ h)
         skip f w e (first g v h) = first g (omega arith) (e ∙ h)
 

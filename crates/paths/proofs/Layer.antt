@@ -11,7 +11,8 @@ use borrow.Author.Tests.{lt-leb}
 use lib.Dec.{leb}
 use lib.ListN.{length, length-append}
 use Rattle.paths.specs.Before.{Before}
-use Rattle.paths.specs.InnerPaths.{Kind, dead, gives, leads, Codes, value, switch, join, costBehind, cost, Closed, MetBy, Met, NotAfter, Chosen, NoValue, Nearest}
+use Rattle.paths.specs.InnerPaths.{Kind, dead, gives, leads, Codes, value, switch, join, costBehind}
+use Rattle.paths.specs.InnerPaths.{cost, Closed, MetBy, Met, NotAfter, Chosen, NoValue, Nearest}
 use Rattle.paths.proofs.Compared.{before-trans}
 use Rattle.paths.proofs.Optimal.{join-met, join-sum}
 

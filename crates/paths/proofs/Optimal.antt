@@ -10,7 +10,8 @@ use borrow.Author.Tests.{le-leb, leb-true}
 use lib.Dec.{leb}
 use lib.ListN.{length, length-append}
 use Rattle.paths.specs.Before.{Before}
-use Rattle.paths.specs.InnerPaths.{Kind, dead, gives, leads, Codes, There, Sound, Reads, done, value, switch, Best, tableBehind, valuesBehind, Alive, Hop, join, costBehind, cost, Closed, Met, Exact, Chosen}
+use Rattle.paths.specs.InnerPaths.{Kind, dead, gives, leads, Codes, There, Sound, Reads, done, value, switch, Best}
+use Rattle.paths.specs.InnerPaths.{tableBehind, valuesBehind, Alive, Hop, join, costBehind, cost, Closed, Met, Exact, Chosen}
 use Rattle.paths.proofs.Compared.{before-tails, before-under, compared-unique}
 
 -- ---- the capped sum

@@ -12,7 +12,8 @@ use Rattle.wire.specs.Numbers.{numberAt}
 use Rattle.wire.proofs.Laws.{unlike}
 use Rattle.bits.specs.Bits.{lowBits, begins}
 use Rattle.tables.specs.declared.Structure.{Structure}
-use Rattle.tables.specs.Structures.{noStructure, structureAt, structuresAt, remainderOf, modeRight, structureRight, apart, every, prefixFree}
+use Rattle.tables.specs.Structures.{noStructure, structureAt, structuresAt, remainderOf, modeRight}
+use Rattle.tables.specs.Structures.{structureRight, apart, every, prefixFree}
 use Rattle.tables.specs.Section2.{isDefault, tableCount, tableAt, afterTable, tablesFrom, afterTables, tableRight, section2Right}
 
 -- the part that a test picks holds where the rule holds

@@ -59,8 +59,8 @@ loop-again c =
     let there : j < length t = simp length-append (omega arith) in
     let read : c .byte .result ≡ getD t j 0 = c .byte .ensures .0 ∙ sym (zeros-behind s 8 j) in
     let more =
-    byte-more t j (a .i + (l .k + 1)) (l .w) (c .byte .result) ((8 - l .k) * 8) ((8 - (l .k + 1)) * 8) (omega arith) (omega arith) there read
-    (c .byte .ensures .1) in
+    byte-more t j (a .i + (l .k + 1)) (l .w) (c .byte .result) ((8 - l .k) * 8) ((8 - (l .k + 1)) * 8) (omega arith) (omega arith) there
+    read (c .byte .ensures .1) in
     (omega arith, digits-more 256 (l .k) (l .inv .1) (c .byte .ensures .1), sym more ∙ l .inv .2)
 
 returns : tie.Need-returns Inv-loop μ-loop

@@ -29,7 +29,8 @@ returns c =
     let fits : a .at / 8 + 8 ≤ length t = simp length-append (omega arith) in
     λ k h g.
     let there : a .at + k ≤ length (bitsIn s) = omega (arith, length-drop (a .at) (bitsIn s), length-bitsIn s) in
-    window-of t (a .at) (c .last-word .result) k fits (c .last-word .ensures) h ∙ ap numberOf (bits-before s (replicate 8 0) (a .at) k there)
+    window-of t (a .at) (c .last-word .result) k fits (c .last-word .ensures) h
+    ∙ ap numberOf (bits-before s (replicate 8 0) (a .at) k there)
 
 word-requires : tie.Need-word-requires
 word-requires c κs = search needs

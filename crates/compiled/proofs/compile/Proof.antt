@@ -64,7 +64,8 @@ put-none-requires-2 c κs =
     let put = c .before .before .before in
     let num = put .before .before in
     let r = own num in
-    (put .put-tables .kept .1 .1 .1 .0 ∙ num .before .before .before .before .before .pre .0, omega (arith, r .most, num .number16 .ensures .0))
+    let start = num .before .before .before .before .before in
+    (put .put-tables .kept .1 .1 .1 .0 ∙ start .pre .0, omega (arith, r .most, num .number16 .ensures .0))
 
 same-length-2 : tie.Need-same-length-2
 same-length-2 c = search needs

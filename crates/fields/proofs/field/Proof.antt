@@ -18,10 +18,12 @@ enum-known-start : tie.Need-enum-known-start
 enum-known-start c = search needs
 
 -- in the arm `At(start, size)`: the part lies within the record
-inside : (c : tie.After-known-told) → c .before .start .given .0 .0 + c .before .start .given .0 .1 .0 ≤ length (c .before .before .before .before .before .args .rec .now)
+inside : (c : tie.After-known-told) → let a = c .before .before .before .before .before .args in
+    let g = c .before .start .given .0 in g .0 + g .1 .0 ≤ length (a .rec .now)
 inside c =
-    place-inside (c .before .before .before .before .before .args .rec .now) (c .before .before .before .before .before .args .tag) (c .before .before .before .before .before .args .occurrence) _ _
-    (sym (c .before .before .before .field-place .ensures) ∙ c .before .start .given .1)
+    let a = c .before .before .before .before .before .args in
+    let place = sym (c .before .before .before .field-place .ensures) in
+    place-inside (a .rec .now) (a .tag) (a .occurrence) _ _ (place ∙ c .before .start .given .1)
 
 add-end : tie.Need-add-end
 add-end c = let h = inside c in omega arith
@@ -51,7 +53,8 @@ returns-2 : tie.Need-returns-2
 returns-2 c =
     let a = c .before .before .before .before .before .before .args in
     let h = sym (c .before .before .before .before .field-place .ensures) ∙ c .before .before .number .given .1 in
-    (sym (ap refusalOf h), (sym (ap (partBytes (a .rec .now)) h), (refl, sym (ap (λ (p : Place). partStart p + a .rec .ptr .1) h ∙ zero-add _))))
+    let start = ap (λ (p : Place). partStart p + a .rec .ptr .1) h in
+    (sym (ap refusalOf h), (sym (ap (partBytes (a .rec .now)) h), (refl, sym (start ∙ zero-add _))))
 
 pub field-spec : {M : Type 1} → statement M
 field-spec =

@@ -1,8 +1,9 @@
 -- A refused record gives its number; of an opened one the field that is found in Section 1 stands as far on as the section starts.
 use mathlib.Core.Path.{_≡_, sym, ap, _∙_}
 use native.Mathlib.Omega.{arith}
-use Prim.Native.Nat.{ℕ, _+_, _-_}
+use Prim.Native.Nat.{ℕ, _+_, _-_, _≤_}
 use mathlib.Core.List.{List}
+use lib.ListN.{length}
 use Rattle.header.specs.declared.Step.the-variants.{Found}
 use Rattle.header.specs.Fields.{fieldsFrom, withTag, occurring}
 use Rattle.pointers.specs.Pointers.{startOf, sectionOf}
@@ -35,17 +36,26 @@ enum-known-f : tie.Need-enum-known-f
 enum-known-f c = search needs
 
 -- in the arm `Found(f)`: the record's Section 1 has the field
-found : (c : tie.After-struct-known)
-    → occurring (c .before .before .before .before .before .before .before .before .before .before .args .occurrence) (withTag (c .before .before .before .before .before .before .before .before .before .before .args .tag) (fieldsFrom (sectionOf (c .before .before .before .before .before .before .before .before .before .before .args .rec .now) 1) 16)) ≡ Found (c .before .before .f .given .0 .0)
+found : (c : tie.After-struct-known) → let a = c .before .before .before .before .before .before .before .before .before .before .args in
+    occurring (a .occurrence) (withTag (a .tag) (fieldsFrom (sectionOf (a .rec .now) 1) 16)) ≡ Found (c .before .before .f .given .0 .0)
 found c =
-    ap (λ (l : List ℕ). occurring (c .before .before .before .before .before .before .before .before .before .before .args .occurrence) (withTag (c .before .before .before .before .before .before .before .before .before .before .args .tag) (fieldsFrom l 16))) (sym (c .before .before .before .before .before .section-of .ensures))
+    let a = c .before .before .before .before .before .before .before .before .before .before .args in
+    let section = sym (c .before .before .before .before .before .section-of .ensures) in
+    ap (λ (l : List ℕ). occurring (a .occurrence) (withTag (a .tag) (fieldsFrom l 16))) section
     ∙ sym (c .before .before .before .before .find .ensures) ∙ c .before .before .f .given .1
 
+-- so the field ends within the record
+within : (c : tie.After-struct-known) → let a = c .before .before .before .before .before .before .before .before .before .before .args in
+    let f = c .before .before .f .given .0 .0 in (f .start ≤ f .end) × (startOf (a .rec .now) 1 + f .end ≤ length (a .rec .now))
+within c =
+    let a = c .before .before .before .before .before .before .before .before .before .before .args in
+    found-inside (a .rec .now) (a .occurrence) (a .tag) (c .before .before .f .given .0 .0) (found c)
+
 add-t11 : tie.Need-add-t11
-add-t11 c = let w = found-inside (c .before .before .before .before .before .before .before .before .before .before .args .rec .now) (c .before .before .before .before .before .before .before .before .before .before .args .occurrence) (c .before .before .before .before .before .before .before .before .before .before .args .tag) (c .before .before .f .given .0 .0) (found c) in omega arith
+add-t11 c = let w = within c in omega arith
 
 sub-t12 : tie.Need-sub-t12
-sub-t12 c = found-inside (c .before .before .before .before .before .before .before .before .before .before .before .args .rec .now) (c .before .before .before .before .before .before .before .before .before .before .before .args .occurrence) (c .before .before .before .before .before .before .before .before .before .before .before .args .tag) (c .before .before .before .f .given .0 .0) (found (c .before)) .0
+sub-t12 c = within (c .before) .0
 
 enum-told : tie.Need-enum-told
 enum-told c = search needs
@@ -55,17 +65,22 @@ unfolding fieldPlace
 returns-2 c =
     let a = c .before .before .before .before .before .before .before .before .before .before .before .args in
     let f = c .before .before .before .f .given .0 .0 in
+    let e = c .before .before .before .before .before .before .before .before in
+    let opened = sym (e .before .refusal-of .ensures) ∙ e .if1 .left in
     ap (λ (k : ℕ). At (k + f .start) (f .end - f .start)) (c .before .before .before .before .before .before .before .start-of .ensures .0)
-    ∙ sym (place-opened (a .rec .now) _ _ (sym (c .before .before .before .before .before .before .before .before .before .refusal-of .ensures) ∙ c .before .before .before .before .before .before .before .before .if1 .left) ∙ ap (placeFound (startOf (a .rec .now) 1)) (found (c .before)))
+    ∙ sym (place-opened (a .rec .now) _ _ opened ∙ ap (placeFound (startOf (a .rec .now) 1)) (found (c .before)))
 
 returns-3 : tie.Need-returns-3
 unfolding fieldPlace
 returns-3 c =
     let a = c .before .before .before .before .before .before .before .before .args in
+    let section = sym (c .before .before .before .section-of .ensures) in
+    let d = c .before .before .before .before .before in
+    let opened = sym (d .before .refusal-of .ensures) ∙ d .if1 .left in
     let e =
-    ap (λ (l : List ℕ). occurring (a .occurrence) (withTag (a .tag) (fieldsFrom l 16))) (sym (c .before .before .before .section-of .ensures))
+    ap (λ (l : List ℕ). occurring (a .occurrence) (withTag (a .tag) (fieldsFrom l 16))) section
     ∙ sym (c .before .before .find .ensures) ∙ c .enum-told .given .1 in
-    sym (place-opened (a .rec .now) _ _ (sym (c .before .before .before .before .before .before .refusal-of .ensures) ∙ c .before .before .before .before .before .if1 .left) ∙ ap (placeFound (startOf (a .rec .now) 1)) e)
+    sym (place-opened (a .rec .now) _ _ opened ∙ ap (placeFound (startOf (a .rec .now) 1)) e)
 
 pub field-place-spec : {M : Type 1} → statement M
 field-place-spec =

@@ -44,7 +44,8 @@ loop-again : tie.Need-loop-again Inv-loop μ-loop
 loop-again c =
     let a = c .before .before .before .before .before .before .args in
     let l = c .before .before .before .before .loop in
-    (omega arith, l .inv .1, rw add-one (sym (same-turn (a .a .now) (a .b .now) (l .i) (omega arith) (omega arith) (c .if2 .left)) ∙ l .inv .2))
+    let turn = same-turn (a .a .now) (a .b .now) (l .i) (omega arith) (omega arith) (c .if2 .left) in
+    (omega arith, l .inv .1, rw add-one (sym turn ∙ l .inv .2))
 
 returns-3 : tie.Need-returns-3 Inv-loop μ-loop
 returns-3 c =

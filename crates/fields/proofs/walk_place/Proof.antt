@@ -1,5 +1,6 @@
 -- A refused record gives its number, an opened one the place of Section 1.
-use mathlib.Core.Path.{sym, ap, ap₂, _∙_}
+use mathlib.Core.Path.{_≡_, sym, ap, ap₂, _∙_}
+use Rattle.pointers.specs.Pointers.{startOf, lengthOf}
 use Rattle.fields.specs.declared.Place.the-variants.{At, Refused}
 use Rattle.fields.specs.Lookup.{walkPlace}
 use Rattle.fields.proofs.Laws.{place-opened, place-refused}
@@ -26,8 +27,10 @@ returns-2 : tie.Need-returns-2
 unfolding walkPlace
 returns-2 c =
     let a = c .before .before .before .before .before .args in
-    ap₂ At (c .before .start-of .ensures .0) (c .length-of .ensures .0)
-    ∙ sym (place-opened (a .rec .now) _ _ (sym (c .before .before .before .refusal-of .ensures) ∙ c .before .before .if1 .left))
+    let r = a .rec .now in
+    let place : At (c .before .start-of .result) (c .length-of .result) ≡ At (startOf r 1) (lengthOf r 1) =
+    ap₂ At (c .before .start-of .ensures .0) (c .length-of .ensures .0) in
+    place ∙ sym (place-opened r _ _ (sym (c .before .before .before .refusal-of .ensures) ∙ c .before .before .if1 .left))
 
 pub walk-place-spec : {M : Type 1} → statement M
 walk-place-spec =

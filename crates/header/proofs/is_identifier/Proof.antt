@@ -17,14 +17,16 @@ sub-if2 c = search needs
 
 returns-2 : tie.Need-returns-2
 unfolding isIdentifier
-returns-2 c = rw (lt-leb 2 _ (c .if2 .taken))
+returns-2 c = rw (lt-leb 2 (sizeOf (c .before .before .before .args .f)) (omega arith))
 
 sub-if3 : tie.Need-sub-if3
 sub-if3 c = search needs
 
 returns-3 : tie.Need-returns-3
 unfolding isIdentifier
-returns-3 c = rw (le-leb 2 _ (c .before .if2 .left), lt-leb _ 64 (c .if3 .taken))
+returns-3 c =
+    let size = sizeOf (c .before .before .before .before .args .f) in
+    rw (le-leb 2 size (omega arith), lt-leb size 64 (omega arith))
 
 sub-last : tie.Need-sub-last
 sub-last c = search needs
@@ -35,9 +37,10 @@ byte-requires c κs = search needs
 returns-4 : tie.Need-returns-4
 unfolding isIdentifier
 returns-4 c =
+    let size = sizeOf (c .before .before .before .before .before .before .args .f) in
     rw (
-      le-leb 2 _ (c .before .before .before .if2 .left),
-      le-leb _ 64 (c .before .before .if3 .left),
+      le-leb 2 size (omega arith),
+      le-leb size 64 (omega arith),
       sym (c .before .byte .ensures .0),
       ne-eqb _ 0 (c .if4 .taken),
     )
@@ -48,9 +51,10 @@ no-nul-requires c κs = search needs
 returns-5 : tie.Need-returns-5
 unfolding isIdentifier
 returns-5 c =
+    let size = sizeOf (c .before .before .before .before .before .before .before .args .f) in
     rw (
-      le-leb 2 _ (c .before .before .before .before .if2 .left),
-      le-leb _ 64 (c .before .before .before .if3 .left),
+      le-leb 2 size (omega arith),
+      le-leb size 64 (omega arith),
       sym (c .before .before .byte .ensures .0),
       eq-eqb _ 0 (c .before .if4 .left),
     )

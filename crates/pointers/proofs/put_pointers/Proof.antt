@@ -11,7 +11,8 @@ use Rattle.pointers.proofs.put_pointers.Statement.{statement}
 use Rattle.pointers.proofs.put_pointers.Tie as tie
 
 abbrev Inv-loop : tie.InvT-loop
-Inv-loop rec count pointers₀ k₀ pointers k = (k ≤ count) × (length pointers ≡ 192) × (pointers ≡ pointersFrom rec 0 k ++ drop (3 * k) pointers₀)
+Inv-loop rec count pointers₀ k₀ pointers k =
+    (k ≤ count) × (length pointers ≡ 192) × (pointers ≡ pointersFrom rec 0 k ++ drop (3 * k) pointers₀)
 
 abbrev μ-loop : tie.MeasureT-loop
 μ-loop rec count pointers₀ k₀ pointers k = count - k
@@ -34,7 +35,8 @@ loop-again c =
     let l = c .before .before .before .before .before .loop in
     let a = c .before .before .before .before .before .before .before .before .args in
     let e = ap (λ (m : List ℕ). take (3 * l .k) m ++ (pointersFrom (a .rec .now) (l .k) 1 ++ drop (3 * l .k + 3) m)) (l .inv .2) in
-    (omega arith, c .before .before .put-pointer .kept .1 .1 .0 ∙ l .inv .1, c .before .before .put-pointer .ensures ∙ e ∙ put-turn (a .rec .now) (a .pointers .now) (l .k))
+    let put = c .before .before .put-pointer in
+    (omega arith, put .kept .1 .1 .0 ∙ l .inv .1, put .ensures ∙ e ∙ put-turn (a .rec .now) (a .pointers .now) (l .k))
 
 same-length : tie.Need-same-length Inv-loop μ-loop
 same-length c = omega arith

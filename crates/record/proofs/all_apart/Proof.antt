@@ -1,6 +1,7 @@
 -- At every turn the sections still to come decide as all of them do; one that overlaps decides, and after the last none is left to.
 use Prim.Native.Nat.{_-_}
 use mathlib.Core.Path.{_≡_, refl}
+use native.Mathlib.Omega.{arith}
 use borrow.Author.Needs.{needs}
 use Rattle.wire.specs.Rules.{allIn}
 use Rattle.record.specs.Rules.{sectionsApart}
@@ -25,7 +26,7 @@ returns c =
     let l = c .before .before .before in
     let a = l .before .before .args in
     turn-broken (sectionsApart (a .rec .now) (a .k)) (l .loop .j) (a .k) (l .loop .inv)
-    (c .before .before .loop-test .taken) (c .before .is-apart .ensures) (c .if1 .taken)
+    (omega arith) (c .before .is-apart .ensures) (c .if1 .taken)
 
 add-j : tie.Need-add-j Inv-loop μ-loop
 add-j c = search needs
@@ -38,13 +39,13 @@ loop-again c =
     let l = c .before .before .before in
     let a = l .before .before .args in
     turn-kept (sectionsApart (a .rec .now) (a .k)) (l .loop .j) (a .k) (l .loop .inv)
-    (c .before .before .loop-test .taken) (c .before .is-apart .ensures) (c .if1 .left)
+    (omega arith) (c .before .is-apart .ensures) (c .if1 .left)
 
 returns-2 : tie.Need-returns-2 Inv-loop μ-loop
 returns-2 c =
     let l = c .before in
     let a = l .before .before .args in
-    turns-done (sectionsApart (a .rec .now) (a .k)) (l .loop .j) (a .k) (l .loop .inv) (c .loop-test .left)
+    turns-done (sectionsApart (a .rec .now) (a .k)) (l .loop .j) (a .k) (l .loop .inv) (omega arith)
 
 pub all-apart-spec : {M : Type 1} → statement M
 all-apart-spec =

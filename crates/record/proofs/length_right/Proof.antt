@@ -1,6 +1,8 @@
 -- The tests are the rule's three parts, in its order.
 use mathlib.Core.Path.{refl}
 use mathlib.Core.Bool.{and-false}
+use native.Mathlib.Omega.{arith}
+use lib.ListN.{length}
 use borrow.Author.Needs.{needs}
 use borrow.Author.Tests.{le-leb, lt-leb}
 use Rattle.record.specs.Rules.{lengthRight}
@@ -10,11 +12,11 @@ use Rattle.record.proofs.length_right.Tie as tie
 
 returns : tie.Need-returns
 unfolding lengthRight
-returns c = simp (lt-leb _ _ (c .if1 .taken))
+returns c = simp (lt-leb 142 (length (c .before .before .args .rec .now)) (omega arith))
 
 returns-2 : tie.Need-returns-2
 unfolding lengthRight
-returns-2 c = simp (lt-leb _ _ (c .if2 .taken), and-false)
+returns-2 c = simp (lt-leb (length (c .before .before .before .args .rec .now)) 1048576 (omega arith), and-false)
 
 number32-requires : tie.Need-number32-requires
 number32-requires c κs = search needs
@@ -26,9 +28,10 @@ returns-3 c = simp (differ (c .before .number32 .ensures .0) refl (c .if3 .taken
 returns-4 : tie.Need-returns-4
 unfolding lengthRight
 returns-4 c =
+    let size = length (c .before .before .before .before .before .args .rec .now) in
     simp (
-      le-leb _ _ (c .before .before .before .if1 .left),
-      le-leb _ _ (c .before .before .if2 .left),
+      le-leb 142 size (omega arith),
+      le-leb size 1048576 (omega arith),
       same (c .before .number32 .ensures .0) refl (c .if3 .left),
     )
 

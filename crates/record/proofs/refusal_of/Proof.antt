@@ -43,7 +43,8 @@ left3 c = simp (kept (c .before .section0-right .ensures) (c .if3 .left)) at (le
 left4 : (c : tie.Else4) → Left from5 (c .before .before .before .before .before .before .before .before .before .args .rec .now)
 left4 c = simp (kept (c .before .all-placed-right .ensures) (c .if4 .left)) at (left3 (c .before .before))
 
-left5 : (c : tie.Else5) → Left from6 (c .before .before .before .before .before .before .before .before .before .before .before .args .rec .now)
+left5 : (c : tie.Else5) → let a = c .before .before .before .before .before .before .before .before .before .before .before .args in
+    Left from6 (a .rec .now)
 left5 c = simp (kept (c .before .checks-right .ensures) (c .if5 .left)) at (left4 (c .before .before))
 
 length-right-requires : tie.Need-length-right-requires

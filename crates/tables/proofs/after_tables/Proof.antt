@@ -32,7 +32,9 @@ loop-again c =
     let l = c .before .before .loop in
     let s = c .before .before .before .before .args .s .now in (
       omega arith,
-      ap (λ (o : ℕ). afterTables s o (l .left - 1)) (c .after-table .ensures .0) ∙ sym (after-more s (l .from) (l .left) (omega arith)) ∙ l .inv .1,
+      ap (λ (o : ℕ). afterTables s o (l .left - 1)) (c .after-table .ensures .0)
+          ∙ sym (after-more s (l .from) (l .left) (omega arith))
+          ∙ l .inv .1,
     )
 
 returns : tie.Need-returns Inv-loop μ-loop

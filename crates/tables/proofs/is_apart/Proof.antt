@@ -1,4 +1,4 @@
--- At every turn the bits still to come decide, since those passed are the same in both; where one prefix has none left, it begins the other.
+-- At every turn the bits still to come decide, since those passed are the same in both; a prefix that has none left begins the other.
 use mathlib.Core.Path.{_≡_, sym, _∙_}
 use Prim.Native.Nat.{_-_}
 use native.Mathlib.Nat.{sub-zero}

@@ -1,4 +1,4 @@
--- At every turn the structures that are left decide, since each one passed is apart from all behind it; after the last nothing is left to decide.
+-- At every turn the structures that are left decide, since each one passed is apart from all behind it.
 use mathlib.Core.Path.{_≡_, refl, ap, _∙_}
 use Prim.Native.Nat.{_+_, _-_, _*_, _≤_}
 use native.Mathlib.Omega.{arith}
@@ -56,7 +56,8 @@ loop-again c =
     let l = c .before .before .before .before .loop in
     let a = c .before .before .before .before .before .before .args in
     let rest = structuresAt (a .s .now) (l .from + 9) (l .left - 1) in
-    let first = c .before .apart-from .ensures ∙ ap (λ (x : Structure). every (apart x) rest) (c .before .before .structure-at .ensures) in (
+    let same = ap (λ (x : Structure). every (apart x) rest) (c .before .before .structure-at .ensures) in
+    let first = c .before .apart-from .ensures ∙ same in (
       omega arith,
       omega arith,
       rw (← l .inv .2, structures-cons (a .s .now) (l .from) (l .left) (omega arith), kept first (c .if1 .left)),

@@ -1,4 +1,4 @@
--- At every turn the bytes still to come lead the register, as it is, to the definition's answer; after the last the register is that answer.
+-- At every turn the bytes still to come lead the register to the definition's answer; after the last the register is that answer.
 use mathlib.Core.Path.{_≡_, refl, sym, ap, _∙_}
 use Prim.Native.Nat.{ℕ, _+_, _-_}
 use native.Mathlib.Omega.{arith}
