@@ -10,6 +10,7 @@ use lib.IntN.{ℤ}
 use lib.ListN.{length, take, drop}
 use lib.Seq.{take-at}
 use Rattle.wire.specs.Numbers.{part}
+use Rattle.wire.specs.Rules.{every}
 use Rattle.header.specs.declared.Field.{Field}
 use Rattle.header.specs.declared.Step.the-variants.{Found}
 use Rattle.header.proofs.Laws.{step-found, fields-step}
@@ -20,7 +21,6 @@ use Rattle.fields.specs.declared.Place.the-variants.{At, Refused}
 use Rattle.fields.specs.Lookup.{placeFound, fieldPlace, walkPlace, refusalOf, partBytes}
 use Rattle.fields.proofs.Laws.{place-opened, found-inside}
 use Rattle.bits.specs.Bits.{bitsIn}
-use Rattle.tables.specs.Structures.{every}
 use Rattle.samples.specs.Differences.{differences}
 use Rattle.samples.specs.Trace.{rebuilt, fits16}
 use Rattle.traces.specs.Rebuilding.{rebuild}
@@ -30,7 +30,7 @@ use Rattle.packing.specs.Packing.{bytesFor, packed}
 use Rattle.packing.proofs.Laws.{length-packed}
 use Rattle.encode.specs.declared.Coded.{Coded}
 use Rattle.encode.specs.Encoding as E
-use Rattle.encode.specs.Encoding.{tablesGiven, givenRight, foundRefusal, codedAs, outAs, Encoded}
+use Rattle.encode.specs.Encoding.{tablesGiven, tablesGivenRight, foundRefusal, codedAs, outAs, Encoded}
 use Rattle.trip.proofs.Traces.{stream-back}
 use Rattle.trip.proofs.Compose.{given-right}
 use Rattle.trip.proofs.Written.{written-back}
@@ -73,7 +73,7 @@ step-shown s at f e = let w = step-found s at f e in (fields-step s at ∙ ap (o
 -- ---- what encoding a lead answers
 
 -- by what was found, and the number that it gives
-coded-back : (s2 : List ℕ) (xs : List ℤ) (order : ℕ) (out : List ℕ) → givenRight s2 ≡ true → every fits16 xs ≡ true
+coded-back : (s2 : List ℕ) (xs : List ℤ) (order : ℕ) (out : List ℕ) → tablesGivenRight s2 ≡ true → every fits16 xs ≡ true
     → (found : Option (List ℕ)) → E.Found (tablesGiven s2) (differences order xs) found → (n : ℕ) → foundRefusal (length out) found ≡ n
     → codedAs n found .refusal ≡ 0
     → rebuild (tablesGiven s2) order (length xs) (bitsIn (take (codedAs n found .bytes) (outAs n found out))) ≡ rebuilt xs
@@ -90,7 +90,7 @@ encoded-back : {s2 : List ℕ} {xs : List ℤ} {order : ℕ} {work out : List �
     → Encoded s2 xs order work out a w o → a .refusal ≡ 0
     → rebuild (tablesGiven s2) order (length xs) (bitsIn (take (a .bytes) o)) ≡ rebuilt xs
 encoded-back fit (E.refused n e) h = absurd (omega arith)
-encoded-back {s2 = s2} {xs = xs} {order = order} {work = work} {out = out} fit (E.searched found e F) h =
+encoded-back {s2 = s2} {xs = xs} {order = order} {work = work} {out = out} fit (E.answered found e F) h =
     coded-back s2 xs order out (given-kept s2 (length xs) order (length work) e) fit found F (foundRefusal (length out) found) refl h
 
 -- ---- the demand

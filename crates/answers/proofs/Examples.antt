@@ -8,38 +8,38 @@ use native.Mathlib.Omega.{arith}
 use lib.IntN.{pos}
 use lib.ListN.{length, take}
 use Rattle.wire.specs.Numbers.{numberAt}
-use Rattle.wire.specs.Rules.{each, allIn, endsBy}
+use Rattle.wire.specs.Rules.{each, allIn, every, endsBy}
 use Rattle.header.specs.Fields.{isField, fieldAt, stepAt}
-use Rattle.bits.specs.Bits.{highBits, lowBits, bitsIn, numberAfter, signed, begins}
-use Rattle.tables.specs.Structures.{structureAt, structuresAt, modeRight, structureRight, apart, every, prefixFree}
+use Rattle.bits.specs.Bits.{highFirst, lowFirst, bitsIn, numberAfter, signed, begins}
+use Rattle.tables.specs.Structures.{structureAt, structuresAt, modeRight, structureRight, apart, prefixFree}
 use Rattle.tables.specs.Default.{codeOf, valued, ones, twoValues, defaultTable}
 use Rattle.tables.specs.Section2.{isDefault, tableAt, afterTable, tablesFrom, afterTables, tablesIn, tableOf, tableRight, section2Right}
 use Rattle.reading.specs.Reading.{matching, valueOf, afterMatch, readWithin, readCoded, readNext}
 use Rattle.samples.specs.Differences.{storedOf, storedFrom, differences}
-use Rattle.entries.specs.Beat.{beatSamples}
+use Rattle.entries.specs.Beat.{samplesInBeat}
 use Rattle.shortest.specs.Shortest.{areBits}
 use Rattle.shortest.specs.InnerRule.{twos, holds, equal, serves, kindOf, wordOf}
 use Rattle.shortest.proofs.Existence.{readsIt}
 use Rattle.shortest.proofs.Certificate.{takes, outside-none}
 use Rattle.encode.specs.declared.Coded.{Coded}
-use Rattle.encode.specs.Encoding.{tablesGiven, givenRight, foundRefusal, Encoded, refused, searched}
+use Rattle.encode.specs.Encoding.{tablesGiven, tablesGivenRight, foundRefusal, Encoded, refused, answered}
 use Rattle.trip.proofs.Compose.{given-right}
 use Rattle.fields.specs.Identifier.{same}
 use Rattle.answers.proofs.Fewest.{asked}
 use Rattle.answers.specs.Examples.{twoTables, namedDefault, readMany, valuesP3, valuesP5, samplesP9, samplesP1, field007, field7, id007, id7, Examples}
 
 -- P9's third value has more than 16 bits
-refused-15 : {s2 work out : List ℕ} {a : Coded} {w o : List ℕ} → givenRight s2 ≡ true → 3 * length (tablesGiven s2) ≤ length work
+refused-15 : {s2 work out : List ℕ} {a : Coded} {w o : List ℕ} → tablesGivenRight s2 ≡ true → 3 * length (tablesGiven s2) ≤ length work
     → Encoded s2 samplesP9 2 work out a w o → a .refusal ≡ 15
 unfolding samplesP9 differences storedFrom storedOf foundRefusal
 refused-15 {s2 = s2} {work = work} right room (refused n e) =
     absurd (omega (arith, sym (asked s2 3 2 (length work) right (omega arith) (omega arith) (omega arith) room) ∙ e))
-refused-15 right room (searched none e F) = refl
-refused-15 {s2 = s2} right room (searched (some bs) e F) =
+refused-15 right room (answered none e F) = refl
+refused-15 {s2 = s2} right room (answered (some bs) e F) =
     absurd (outside-none (tablesGiven s2) (given-right s2 right) (differences 2 samplesP9) 2 (omega arith) (omega arith) bs (F .stream))
 
 pub examples : Examples
-unfolding valuesP5 samplesP9 allIn each areBits readsIt twos holds equal serves kindOf wordOf samplesP1 differences storedFrom storedOf beatSamples twoTables namedDefault readMany valuesP3 field007 field7 id007 id7 same stepAt isField fieldAt tablesIn isDefault tablesFrom tableAt afterTable afterTables tableRight section2Right endsBy structuresAt structureAt numberAt every structureRight modeRight prefixFree apart begins lowBits highBits bitsIn numberAfter signed defaultTable valued codeOf ones twoValues readNext readCoded readWithin afterMatch valueOf matching tableOf
+unfolding valuesP5 samplesP9 allIn each areBits readsIt twos holds equal serves kindOf wordOf samplesP1 differences storedFrom storedOf samplesInBeat twoTables namedDefault readMany valuesP3 field007 field7 id007 id7 same stepAt isField fieldAt tablesIn isDefault tablesFrom tableAt afterTable afterTables tableRight section2Right endsBy structuresAt structureAt numberAt every structureRight modeRight prefixFree apart begins lowFirst highFirst bitsIn numberAfter signed defaultTable valued codeOf ones twoValues readNext readCoded readWithin afterMatch valueOf matching tableOf
 examples = record {
   p1 = refl;
   p2 = refl;

@@ -16,9 +16,9 @@ use Rattle.samples.specs.Trace.{Trace, rebuilt, fault, fits16, behind, afterSam
 use Rattle.traces.specs.Rebuilding.{afterNext, rebuildFrom, rebuild}
 use Rattle.entries.specs.Leads.{firstSample}
 use Rattle.entries.specs.Streams.{orderOf, streamOf}
-use Rattle.beats.specs.Sums.{beatPlace, beatSample, addBeat}
-use Rattle.rules.specs.Rules.{leadsOf, hasBeat, beatCount}
-use Rattle.leads.specs.Leads.{tablesOf, streamTrace, countAt, residual, traceAt}
+use Rattle.beats.specs.Sums.{beatPlace, beatValueAt, addBeat}
+use Rattle.rules.specs.Rules.{leadCountOf, beatSubtracted, beatSampleCount}
+use Rattle.leads.specs.Leads.{tablesOf, streamTrace, sampleCountAt, residual, traceAt}
 
 -- a fault that streams have is 12, 13 or 14
 abbrev Fault : Trace → Type 0
@@ -59,7 +59,7 @@ fault-added : (s : List ℕ) (beat : List ℤ) (n : ℕ) (xs : List ℤ) → Fau
 unfolding addBeat
 fault-added s beat n [] = tt
 fault-added s beat n (x ∷ xs) =
-    fault-sample (λ y. addBeat s beat (n + 1) xs) (x +ℤ beatSample beat (beatPlace s n)) (λ y. fault-added s beat (n + 1) xs)
+    fault-sample (λ y. addBeat s beat (n + 1) xs) (x +ℤ beatValueAt beat (beatPlace s n)) (λ y. fault-added s beat (n + 1) xs)
 
 fault-after : (goOn : List ℤ → Trace) (t : Trace) → Fault t → ((xs : List ℤ) → Fault (goOn xs)) → Fault (afterTrace goOn t)
 fault-after goOn (rebuilt xs) h g = g xs
@@ -67,21 +67,21 @@ fault-after goOn (fault n) h g = h
 
 fault-trace : (r : List ℕ) (k : ℕ) → Fault (traceAt r k)
 unfolding traceAt residual streamTrace rebuild
-fault-trace r k = go (hasBeat r)
+fault-trace r k = go (beatSubtracted r)
   where
     one : (section count : ℕ) → Fault (streamTrace r section count k)
     one section count =
-        fault-rebuilt (tablesOf r) (orderOf (sectionOf r section)) count 0 (pos 0) (pos 0) 1 (bitsIn (streamOf (leadsOf r) (sectionOf r section) k))
+        fault-rebuilt (tablesOf r) (orderOf (sectionOf r section)) count 0 (pos 0) (pos 0) 1 (bitsIn (streamOf (leadCountOf r) (sectionOf r section) k))
 
     go : (b : Bool) → Fault (cond b
         (afterTrace
         (λ beat. afterTrace (λ xs. addBeat (sectionOf r 4) beat (firstSample (sectionOf r 3) k) xs) (residual r k))
-        (streamTrace r 5 (beatCount r) k))
+        (streamTrace r 5 (beatSampleCount r) k))
         (residual r k))
     go true =
-        fault-after _ (streamTrace r 5 (beatCount r) k) (one 5 (beatCount r))
-        (λ beat. fault-after _ (residual r k) (one 6 (countAt r k)) (λ xs. fault-added (sectionOf r 4) beat (firstSample (sectionOf r 3) k) xs))
-    go false = one 6 (countAt r k)
+        fault-after _ (streamTrace r 5 (beatSampleCount r) k) (one 5 (beatSampleCount r))
+        (λ beat. fault-after _ (residual r k) (one 6 (sampleCountAt r k)) (λ xs. fault-added (sectionOf r 4) beat (firstSample (sectionOf r 3) k) xs))
+    go false = one 6 (sampleCountAt r k)
 
 pub fault-number : (r : List ℕ) (k n : ℕ) → traceAt r k ≡ fault n → (n ≡ 12) ⊎ (n ≡ 13) ⊎ (n ≡ 14)
 fault-number r k n e = rw e at (fault-trace r k)

@@ -10,10 +10,9 @@ use borrow.Author.Tests.{leb-true, leb-false, le-leb}
 use lib.IntN.{ℤ, pos}
 use lib.ListN.{length, length-append}
 use lib.Seq.{take-append-seam}
-use Rattle.wire.specs.Rules.{unless}
+use Rattle.wire.specs.Rules.{every, unless}
 use Rattle.bits.proofs.Laws.{Small, small-take}
 use Rattle.tables.specs.declared.Structure.{Structure}
-use Rattle.tables.specs.Structures.{every}
 use Rattle.tables.specs.Section2.{tableRight}
 use Rattle.reading.specs.Reading.{Next, gave, stuck, readNext}
 use Rattle.samples.specs.Differences.{storedOf, sampleOf, storedFrom, differences}
@@ -25,7 +24,7 @@ use Rattle.shortest.specs.Shortest.{ReadsTo, done, value, Stream, Shortest}
 use Rattle.shortest.proofs.Laws.{bits-small, small-bits}
 use Rattle.shortest.proofs.Cut.{next-cut}
 use Rattle.encode.specs.declared.Coded.{Coded}
-use Rattle.encode.specs.Encoding.{tablesGiven, askedRight, givenRight, workRight, askedRefusal, Found, foundRefusal, codedAs, outAs, Encoded, refused, searched}
+use Rattle.encode.specs.Encoding.{tablesGiven, askedRight, tablesGivenRight, workRight, askedRefusal, Found, foundRefusal, codedAs, outAs, Encoded, refused, answered}
 use Rattle.wire.proofs.Laws.{kept-first, unlike}
 use Rattle.trip.proofs.Traces.{rebuilt-from}
 use Rattle.trip.proofs.Compose.{given-right}
@@ -135,23 +134,23 @@ module _ (n : ℕ) (tables : List (List Structure)) (right : every (tableRight n
 -- ---- encoding a lead
 
 -- what is asked right is not refused before a stream is looked for
-pub asked : (s2 : List ℕ) (count order work : ℕ) → givenRight s2 ≡ true → 1 ≤ count → count ≤ 65536 → order ≤ 2
+pub asked : (s2 : List ℕ) (count order work : ℕ) → tablesGivenRight s2 ≡ true → 1 ≤ count → count ≤ 65536 → order ≤ 2
     → count * length (tablesGiven s2) ≤ work → askedRefusal s2 count order work ≡ 0
 unfolding askedRefusal askedRight workRight
 asked s2 count order work right least most two room =
     rw (le-leb 1 count least, le-leb count 65536 most, le-leb order 2 two, right, le-leb (count * length (tablesGiven s2)) work room)
 
-pub encoding : {s2 : List ℕ} {xs : List ℤ} {order : ℕ} {work out : List ℕ} {a : Coded} {w o : List ℕ} → givenRight s2 ≡ true
+pub encoding : {s2 : List ℕ} {xs : List ℤ} {order : ℕ} {work out : List ℕ} {a : Coded} {w o : List ℕ} → tablesGivenRight s2 ≡ true
     → askedRefusal s2 (length xs) order (length work) ≡ 0 → every fits16 xs ≡ true → Encoded s2 xs order work out a w o
     → Encodes (tablesGiven s2) order xs out a o
 encoding right kept fit (refused n e) = absurd (omega (arith, sym kept ∙ e))
-encoding {s2 = s2} {xs = xs} {order = order} {out = out} right kept fit (searched found e F) =
+encoding {s2 = s2} {xs = xs} {order = order} {out = out} right kept fit (answered found e F) =
     let g = given-right s2 right in
     encodes (length (tablesGiven s2)) (tablesGiven s2) g order xs out fit found F
 
 -- what is not refused before a stream is looked for has tables that are right
-pub given-kept : (s2 : List ℕ) (count order work : ℕ) → askedRefusal s2 count order work ≡ 0 → givenRight s2 ≡ true
+pub given-kept : (s2 : List ℕ) (count order work : ℕ) → askedRefusal s2 count order work ≡ 0 → tablesGivenRight s2 ≡ true
 unfolding askedRefusal
 given-kept s2 count order work e =
     let from11 = unless (workRight s2 count work) 11 0 in
-    kept-first (givenRight s2) 6 from11 (kept-first (askedRight count order) 16 (unless (givenRight s2) 7 from11) e .1) .0
+    kept-first (tablesGivenRight s2) 6 from11 (kept-first (askedRight count order) 16 (unless (tablesGivenRight s2) 7 from11) e .1) .0

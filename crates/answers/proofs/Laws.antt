@@ -9,7 +9,7 @@ use lib.Dec.{eqb}
 use borrow.Author.Tests.{ne-eqb}
 use lib.ListN.{length}
 use Rattle.wire.proofs.Laws.{unlike}
-use Rattle.tables.specs.Structures.{every}
+use Rattle.wire.specs.Rules.{every}
 use Rattle.answers.specs.Demands.{firstBroken, allKept, AllKept}
 
 -- where all are kept none is broken

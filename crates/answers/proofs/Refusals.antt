@@ -1,16 +1,16 @@
 -- The first demand: a refusal is one number, given exactly when its rule says; it shows nothing and changes no lent element. Assumes nothing.
-use Prim.Native.Nat.{ℕ, zero, suc, _-_, _*_}
+use Prim.Native.Nat.{ℕ, zero, suc, _-_}
 use mathlib.Core.Path.{_≡_, refl, sym, ap, _∙_}
 use mathlib.Core.Bool.{Bool, true, false, not, _&&_, cond}
 use mathlib.Core.List.{List, [], _∷_}
 use mathlib.Core.Logic.{_⊎_, inl, inr}
 use mathlib.Core.Option.{Option, none, some}
 use native.Mathlib.Omega.{arith}
-use lib.Dec.{leb, eqb}
+use lib.Dec.{eqb}
 use borrow.Author.Tests.{eqb-true, eq-eqb, ne-eqb}
 use lib.IntN.{ℤ, pos}
 use lib.ListN.{length, replicate}
-use Rattle.wire.specs.Rules.{unless}
+use Rattle.wire.specs.Rules.{every, unless}
 use Rattle.header.specs.declared.Step.{Step}
 use Rattle.header.specs.declared.Step.the-variants.{End}
 use Rattle.header.specs.Fields.{fieldsFrom, withTag, occurring}
@@ -21,9 +21,8 @@ use Rattle.fields.specs.declared.Place.{Place}
 use Rattle.fields.specs.declared.Place.the-variants.{At, Refused}
 use Rattle.fields.specs.Lookup.{fieldPlace, walkPlace, refusalOf, partBytes}
 use Rattle.fields.proofs.Laws.{place-opened, place-refused}
-use Rattle.tables.specs.Structures.{every}
 use Rattle.samples.specs.Trace.{Trace, rebuilt, fault}
-use Rattle.rules.specs.Rules.{hasBeat, tablesRight, leadsRight, agrees, hasLead, leadRefusal}
+use Rattle.rules.specs.Rules.{beatSubtracted, tablesRight, sections3To6Right, agrees, hasLead, leadRefusal}
 use Rattle.leads.specs.Leads.{traceAt, roomRight, readRefusal, readTrace}
 use Rattle.leads.specs.Answers.{leadOf, leadAnswer, outAfter, workAfter, entryOf}
 use Rattle.encode.specs.declared.Coded.{Coded}
@@ -44,7 +43,8 @@ opening r = refl
 
 pub lead : (r : List ℕ) (place : ℕ) → leadRefusal r place ≡ firstBroken 1 (rowsLead r place)
 unfolding leadRefusal opens firstBroken
-lead r place = rw (opening r) (sym (broken-behind (rowsOpened r) (tablesRight r ∷ leadsRight r ∷ agrees r ∷ hasLead r place ∷ []) 0 7 refl))
+lead r place =
+    rw (opening r) (sym (broken-behind (rowsOpened r) (tablesRight r ∷ sections3To6Right r ∷ agrees r ∷ hasLead r place ∷ []) 0 7 refl))
 
 pub reading : (r : List ℕ) (place room work : ℕ) → readRefusal r place room work ≡ firstBroken 1 (rowsRead r place room work)
 unfolding readRefusal firstBroken
@@ -126,13 +126,14 @@ not-read r k n (rebuilt xs) out h = absurd (omega arith)
 not-read r k n (fault number) out h = (ap noLead h, refl)
 
 work-read : (r : List ℕ) (place room : ℕ) (work : List ℤ)
-    → workAfter r place room work ≡ cond (allKept (rowsRead r place room (length work)) && hasBeat r) (replicate (length work) (pos 0)) work
+    → workAfter r place room work ≡ cond (allKept (rowsRead r place room (length work)) && beatSubtracted r)
+    (replicate (length work) (pos 0)) work
 unfolding workAfter
 work-read r place room work =
     let rows = rowsRead r place room (length work) in
     let kept : eqb (readRefusal r place room (length work)) 0 ≡ allKept rows =
     ap (λ (n : ℕ). eqb n 0) (reading r place room (length work)) ∙ broken-kept rows 0 in
-    ap (λ (b : Bool). cond (b && hasBeat r) (replicate (length work) (pos 0)) work) kept
+    ap (λ (b : Bool). cond (b && beatSubtracted r) (replicate (length work) (pos 0)) work) kept
 
 -- ---- writing
 
@@ -154,13 +155,13 @@ job-kept true true true true = refl
 
 coding-kept : (s2 : List ℕ) (count order work : ℕ) → allKept (rowsAsked s2 count order work) ≡ eqb (E.askedRefusal s2 count order work) 0
 unfolding E.askedRefusal
-coding-kept s2 count order work = sym (asked-kept (E.askedRight count order) (E.givenRight s2) (E.workRight s2 count work))
+coding-kept s2 count order work = sym (asked-kept (E.askedRight count order) (E.tablesGivenRight s2) (E.workRight s2 count work))
 
 pub writing-kept : (j : Job) (work : ℕ) → allKept (rowsJob j work) ≡ eqb (C.jobRefusal j work) 0
 unfolding C.jobRefusal
 writing-kept j work =
-    sym (job-kept (C.jobRight j) (section1Right 0 (j .section1) 0) (E.givenRight (j .section2))
-    (leb (C.longest (j .counts) * length (E.tablesGiven (j .section2))) work))
+    sym (job-kept (C.jobRight j) (section1Right 0 (j .section1) 0) (E.tablesGivenRight (j .section2))
+    (E.workRight (j .section2) (C.longest (j .counts)) work))
 
 -- the first of them that is broken
 coding-first : (s2 : List ℕ) (count order work : ℕ)
@@ -173,8 +174,8 @@ unfolding C.jobRefusal firstOf
 writing-first j work = refl
 
 -- work space where a refusal n of these is the answer, or none
-work-after : (s2 work : List ℕ) → E.workAfter s2 work ≡ cond (true && not (eqb (length s2) 0)) (replicate (length work) 0) work
-unfolding E.workAfter
+work-after : (s2 work : List ℕ) → E.workSearched s2 work ≡ cond (true && not (eqb (length s2) 0)) (replicate (length work) 0) work
+unfolding E.workSearched
 work-after s2 work = go (eqb (length s2) 0)
   where
     go : (b : Bool) → cond b work (replicate (length work) 0) ≡ cond (not b) (replicate (length work) 0) work
@@ -188,7 +189,7 @@ not-coded zero n (some bs) out h = absurd (omega arith)
 not-coded (suc m) n found out h = (ap noStream h, refl)
 
 not-written : (j : Job) (m n : ℕ) (streams : Option (List (List ℕ))) (out : List ℕ) → C.writtenAs j m streams .refusal ≡ suc n
-    → (C.writtenAs j m streams ≡ noRecord (suc n)) × (C.outAs j m streams out ≡ out)
+    → (C.writtenAs j m streams ≡ noRecord (suc n)) × (C.recordOut j m streams out ≡ out)
 not-written j zero n none out h = absurd (omega arith)
 not-written j zero n (some streams) out h = absurd (omega arith)
 not-written j (suc m) n streams out h = (ap noRecord h, refl)
@@ -196,13 +197,13 @@ not-written j (suc m) n streams out h = (ap noRecord h, refl)
 encode-refused : {s2 : List ℕ} {xs : List ℤ} {order : ℕ} {work out : List ℕ} {a : Coded} {w o : List ℕ} (n : ℕ) → Encoded s2 xs order work out a w o
     → a .refusal ≡ suc n → (a ≡ noStream (suc n)) × (o ≡ out)
 encode-refused {out = out} n (E.refused m e) h = not-coded (suc m) n none out h
-encode-refused {out = out} n (E.searched found e F) h = not-coded (E.foundRefusal (length out) found) n found out h
+encode-refused {out = out} n (E.answered found e F) h = not-coded (E.foundRefusal (length out) found) n found out h
 
 encode-work : {s2 : List ℕ} {xs : List ℤ} {order : ℕ} {work out : List ℕ} {a : Coded} {w o : List ℕ} → Encoded s2 xs order work out a w o
     → w ≡ cond (allKept (rowsAsked s2 (length xs) order (length work)) && not (eqb (length s2) 0)) (replicate (length work) 0) work
 encode-work {s2 = s2} {xs = xs} {order = order} {work = work} (E.refused n e) =
     rw (coding-kept s2 (length xs) order (length work), e, ne-eqb (suc n) 0 (omega arith))
-encode-work {s2 = s2} {xs = xs} {order = order} {work = work} (E.searched found e F) =
+encode-work {s2 = s2} {xs = xs} {order = order} {work = work} (E.answered found e F) =
     rw (coding-kept s2 (length xs) order (length work), e) (work-after s2 work)
 
 encode-asked : {s2 : List ℕ} {xs : List ℤ} {order : ℕ} {work out : List ℕ} {a : Coded} {w o : List ℕ} → Encoded s2 xs order work out a w o
@@ -210,24 +211,24 @@ encode-asked : {s2 : List ℕ} {xs : List ℤ} {order : ℕ} {work out : List �
     ⊎ (a .refusal ≡ firstOf (17 ∷ 7 ∷ 11 ∷ []) (rowsAsked s2 (length xs) order (length work)))
 encode-asked {s2 = s2} {xs = xs} {order = order} {work = work} (E.refused n e) =
     inr (sym e ∙ coding-first s2 (length xs) order (length work))
-encode-asked {s2 = s2} {xs = xs} {order = order} {work = work} (E.searched found e F) =
+encode-asked {s2 = s2} {xs = xs} {order = order} {work = work} (E.answered found e F) =
     inl (coding-kept s2 (length xs) order (length work) ∙ rw e)
 
 write-refused : {j : Job} {work out : List ℕ} {a : Written} {w o : List ℕ} (n : ℕ) → Wrote j work out a w o → a .refusal ≡ suc n
     → (a ≡ noRecord (suc n)) × (o ≡ out)
 write-refused {j = j} {out = out} n (C.refused m e) h = not-written j (suc m) n none out h
-write-refused {j = j} {out = out} n (C.searched founds e F) h =
-    not-written j (C.foundRefusal j (length out) (C.streamsOf founds)) n (C.streamsOf founds) out h
+write-refused {j = j} {out = out} n (C.answered founds e F) h =
+    not-written j (C.recordRefusal j (length out) (C.packedAll founds)) n (C.packedAll founds) out h
 
 write-work : {j : Job} {work out : List ℕ} {a : Written} {w o : List ℕ} → Wrote j work out a w o
     → w ≡ cond (allKept (rowsJob j (length work)) && not (eqb (length (j .section2)) 0)) (replicate (length work) 0) work
 write-work {j = j} {work = work} (C.refused n e) = rw (writing-kept j (length work), e, ne-eqb (suc n) 0 (omega arith))
-write-work {j = j} {work = work} (C.searched founds e F) = rw (writing-kept j (length work), e) (work-after (j .section2) work)
+write-work {j = j} {work = work} (C.answered founds e F) = rw (writing-kept j (length work), e) (work-after (j .section2) work)
 
 write-asked : {j : Job} {work out : List ℕ} {a : Written} {w o : List ℕ} → Wrote j work out a w o
     → AllKept (rowsJob j (length work)) ⊎ (a .refusal ≡ firstOf (17 ∷ 6 ∷ 7 ∷ 11 ∷ []) (rowsJob j (length work)))
 write-asked {j = j} {work = work} (C.refused n e) = inr (sym e ∙ writing-first j (length work))
-write-asked {j = j} {work = work} (C.searched founds e F) = inl (writing-kept j (length work) ∙ rw e)
+write-asked {j = j} {work = work} (C.answered founds e F) = inl (writing-kept j (length work) ∙ rw e)
 
 -- ---- the demand
 

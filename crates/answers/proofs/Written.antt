@@ -11,17 +11,17 @@ use lib.Dec.{leb}
 use borrow.Author.Tests.{leb-true, leb-false}
 use lib.IntN.{ℤ}
 use lib.ListN.{length, getD}
-use Rattle.wire.specs.Rules.{unless}
+use Rattle.wire.specs.Rules.{every, unless}
 use Rattle.wire.proofs.Laws.{unlike}
 use Rattle.samples.specs.Differences.{differences}
 use Rattle.packing.specs.Packing.{bytesFor, packed}
 use Rattle.packing.proofs.Laws.{length-packed}
 use Rattle.shortest.specs.Shortest.{Shortest, NoStream}
-use Rattle.encode.specs.Encoding.{tablesGiven, givenRight}
+use Rattle.encode.specs.Encoding.{tablesGiven, tablesGivenRight}
 use Rattle.compose.specs.declared.Written.{Written}
 use Rattle.compose.specs.Writing as C
-use Rattle.compose.specs.Writing.{Job, cut, FoundAll, done, lead, behind, streamsOf, allShort, Wrote}
-use Rattle.trip.specs.GivenBack.{JobBytes, samplesOf}
+use Rattle.compose.specs.Writing.{Job, cut, FoundAll, done, lead, withStream, packedAll, allShort, Wrote}
+use Rattle.trip.specs.GivenBack.{JobFits, samplesOf}
 use Rattle.trip.proofs.Compose.{given-right, length-cut, cut-fits}
 use Rattle.trip.proofs.Written.{job-kept}
 use Rattle.answers.specs.Demands as D
@@ -44,25 +44,25 @@ record AllFound (s2 : List ℕ) (order : ℕ) (xss : List (List ℤ)) (packedStr
   pub shortest : (k : ℕ) → k < length xss → Shortest (tablesGiven s2) (differences order (getD xss k [])) (getD streams k [])
 
 missing : (s2 : List ℕ) (order : ℕ) {xss : List (List ℤ)} {founds : List (Option (List ℕ))} → FoundAll s2 order xss founds
-    → streamsOf founds ≡ none → Missing s2 order xss
-unfolding streamsOf
+    → packedAll founds ≡ none → Missing s2 order xss
+unfolding packedAll
 missing s2 order done h = unlike cc
 missing s2 order (lead {found = none} f all) h = record { place = 0; there = omega arith; nothing = f }
-missing s2 order (lead {xs = xs} {xss = xss} {found = some bs} {founds = founds} f all) h = go (streamsOf founds) h (missing s2 order all)
+missing s2 order (lead {xs = xs} {xss = xss} {found = some bs} {founds = founds} f all) h = go (packedAll founds) h (missing s2 order all)
   where
-    go : (o : Option (List (List ℕ))) → behind bs o ≡ none → (o ≡ none → Missing s2 order xss) → Missing s2 order (xs ∷ xss)
+    go : (o : Option (List (List ℕ))) → withStream bs o ≡ none → (o ≡ none → Missing s2 order xss) → Missing s2 order (xs ∷ xss)
     go none e later = let m = later refl in record { place = suc (m .place); there = omega (arith, m .there); nothing = m .nothing }
     go (some streams) e later = unlike cc
 
 all-found : (s2 : List ℕ) (order : ℕ) {xss : List (List ℤ)} {founds : List (Option (List ℕ))} (packedStreams : List (List ℕ))
-    → FoundAll s2 order xss founds → streamsOf founds ≡ some packedStreams → AllFound s2 order xss packedStreams
-unfolding streamsOf
+    → FoundAll s2 order xss founds → packedAll founds ≡ some packedStreams → AllFound s2 order xss packedStreams
+unfolding packedAll
 all-found s2 order ps done h =
     let e : ps ≡ [] = cc in
     record { streams = []; bytes = e; many = refl; shortest = λ k l. absurd (omega arith) }
 all-found s2 order ps (lead {found = none} f all) h = unlike cc
 all-found s2 order ps (lead {xs = xs} {xss = xss} {found = some bs} {founds = founds} f all) h =
-    go (streamsOf founds) h (λ qs. all-found s2 order qs all)
+    go (packedAll founds) h (λ qs. all-found s2 order qs all)
   where
     each : (streams : List (List ℕ))
         → ((k : ℕ) → k < length xss → Shortest (tablesGiven s2) (differences order (getD xss k [])) (getD streams k []))
@@ -71,7 +71,7 @@ all-found s2 order ps (lead {xs = xs} {xss = xss} {found = some bs} {founds = fo
     each streams later zero l = f
     each streams later (suc k) l = later k (omega arith)
 
-    go : (o : Option (List (List ℕ))) → behind bs o ≡ some ps → ((qs : List (List ℕ)) → o ≡ some qs → AllFound s2 order xss qs)
+    go : (o : Option (List (List ℕ))) → withStream bs o ≡ some ps → ((qs : List (List ℕ)) → o ≡ some qs → AllFound s2 order xss qs)
         → AllFound s2 order (xs ∷ xss) ps
     go none e later = unlike cc
     go (some qs) e later =
@@ -88,7 +88,7 @@ all-found s2 order ps (lead {xs = xs} {xss = xss} {found = some bs} {founds = fo
 
 short-each : (streams : List (List ℕ)) → allShort (map packed streams) ≡ true → (k : ℕ) → k < length streams
     → bytesFor (length (getD streams k [])) ≤ 65535
-unfolding allShort
+unfolding allShort every
 short-each [] h k l = absurd (omega arith)
 short-each (bs ∷ streams) h zero l =
     let w = and-eq-true-iff (leb (length (packed bs)) 65535) (allShort (map packed streams)) .0 h in
@@ -99,7 +99,7 @@ short-each (bs ∷ streams) h (suc k) l =
 
 long-one : (streams : List (List ℕ)) → allShort (map packed streams) ≡ false
     → (k : ℕ) × (k < length streams) × (65535 < bytesFor (length (getD streams k [])))
-unfolding allShort
+unfolding allShort every
 long-one [] h = unlike cc
 long-one (bs ∷ streams) h = go (leb (length (packed bs)) 65535) refl h (long-one streams)
   where
@@ -111,7 +111,7 @@ long-one (bs ∷ streams) h = go (leb (length (packed bs)) 65535) refl h (long-o
 
 -- ---- writing
 
-module _ (j : Job) (out : List ℕ) (fits : JobBytes j) (right : givenRight (j .section2) ≡ true) where
+module _ (j : Job) (out : List ℕ) (fits : JobFits j) (right : tablesGivenRight (j .section2) ≡ true) where
   -- a lead's samples are of 16 bits, and its tables right
   lead-none : Missing (j .section2) (j .order) (cut (j .counts) (j .samples)) → Writes j out (D.noRecord 15) out
   lead-none m =
@@ -133,16 +133,16 @@ module _ (j : Job) (out : List ℕ) (fits : JobBytes j) (right : givenRight (j .
 
   -- by the bounds and the room
   by-bounds : (streams : List (List ℕ)) → FewestAll j streams
-      → (let number = C.foundRefusal j (length out) (some (map packed streams)) in
-      Writes j out (C.writtenAs j number (some (map packed streams))) (C.outAs j number (some (map packed streams)) out))
-  unfolding C.foundRefusal
+      → (let number = C.recordRefusal j (length out) (some (map packed streams)) in
+      Writes j out (C.writtenAs j number (some (map packed streams))) (C.recordOut j number (some (map packed streams)) out))
+  unfolding C.recordRefusal
   by-bounds streams few = go (allShort (map packed streams)) refl (leb (length (recordWith j streams)) 1048576) refl
       (leb (length (recordWith j streams)) (length out)) refl
     where
       go : (a : Bool) → allShort (map packed streams) ≡ a → (b : Bool) → leb (length (recordWith j streams)) 1048576 ≡ b → (c : Bool)
           → leb (length (recordWith j streams)) (length out) ≡ c
           → (let number = unless (a && b) 16 (unless c 11 0) in
-          Writes j out (C.writtenAs j number (some (map packed streams))) (C.outAs j number (some (map packed streams)) out))
+          Writes j out (C.writtenAs j number (some (map packed streams))) (C.recordOut j number (some (map packed streams)) out))
       go false e b f c g = D.long streams few (inl (long-one streams e))
       go true e false f c g = D.long streams few (inr (leb-false (length (recordWith j streams)) 1048576 f))
       go true e true f false g =
@@ -155,14 +155,14 @@ module _ (j : Job) (out : List ℕ) (fits : JobBytes j) (right : givenRight (j .
           (leb-true (length (recordWith j streams)) (length out) g)
 
   by-found : (founds : List (Option (List ℕ))) → FoundAll (j .section2) (j .order) (cut (j .counts) (j .samples)) founds
-      → (o : Option (List (List ℕ))) → streamsOf founds ≡ o
-      → Writes j out (C.writtenAs j (C.foundRefusal j (length out) o) o) (C.outAs j (C.foundRefusal j (length out) o) o out)
-  unfolding C.foundRefusal
+      → (o : Option (List (List ℕ))) → packedAll founds ≡ o
+      → Writes j out (C.writtenAs j (C.recordRefusal j (length out) o) o) (C.recordOut j (C.recordRefusal j (length out) o) o out)
+  unfolding C.recordRefusal
   by-found founds F none e = lead-none (missing (j .section2) (j .order) F e)
   by-found founds F (some ps) e = let f = all-found (j .section2) (j .order) ps F e in rw (f .bytes) (by-bounds (f .streams) (all-fewest f))
 
-pub writes : {j : Job} {work out : List ℕ} {a : Written} {w o : List ℕ} → JobBytes j → C.jobRefusal j (length work) ≡ 0 → Wrote j work out a w o
+pub writes : {j : Job} {work out : List ℕ} {a : Written} {w o : List ℕ} → JobFits j → C.jobRefusal j (length work) ≡ 0 → Wrote j work out a w o
     → Writes j out a o
 writes fits kept (C.refused n e) = absurd (omega (arith, sym kept ∙ e))
-writes {j = j} {work = work} {out = out} fits kept (C.searched founds e F) =
-    by-found j out fits (job-kept j (length work) e .2) founds F (streamsOf founds) refl
+writes {j = j} {work = work} {out = out} fits kept (C.answered founds e F) =
+    by-found j out fits (job-kept j (length work) e .2) founds F (packedAll founds) refl

@@ -8,10 +8,11 @@ use mathlib.Core.Path.{_≡_}
 use mathlib.Core.Bool.{Bool, true, not, _&&_, cond}
 use mathlib.Core.List.{List, [], _∷_, _++_, map}
 use mathlib.Core.Logic.{_⊎_}
-use lib.Dec.{leb, eqb}
+use lib.Dec.{eqb}
 use lib.IntN.{ℤ, pos}
 use lib.ListN.{length, getD, take, drop, replicate}
 use Rattle.wire.specs.Numbers.{part}
+use Rattle.wire.specs.Rules.{every}
 use Rattle.header.specs.declared.Field.{Field}
 use Rattle.header.specs.declared.Step.the-variants.{Found, End}
 use Rattle.header.specs.Fields.{stepAt, fieldsFrom, withTag, occurring}
@@ -25,24 +26,23 @@ use Rattle.fields.specs.Identifier.{same}
 use Rattle.fields.specs.declared.Place.the-variants.{Refused}
 use Rattle.fields.specs.Lookup.{fieldPlace, walkPlace, refusalOf, partBytes}
 use Rattle.tables.specs.declared.Structure.{Structure}
-use Rattle.tables.specs.Structures.{every}
 use Rattle.samples.specs.Differences.{differences}
 use Rattle.samples.specs.Trace.{rebuilt, fault, fits16}
 use Rattle.traces.specs.Rebuilding.{rebuild}
 use Rattle.entries.specs.Leads.{flagsOf, firstSample, leadId}
 use Rattle.entries.specs.Streams.{stepOf, intervalOf}
-use Rattle.rules.specs.Rules.{tablesRight, hasBeat, leadsRight, agrees, hasLead}
+use Rattle.rules.specs.Rules.{tablesRight, beatSubtracted, sections3To6Right, agrees, hasLead}
 use Rattle.leads.specs.declared.Lead.{Lead}
 use Rattle.leads.specs.declared.Entry.{Entry}
-use Rattle.leads.specs.Leads.{countAt, traceAt, roomRight, readTrace}
+use Rattle.leads.specs.Leads.{sampleCountAt, traceAt, roomRight, readTrace}
 use Rattle.leads.specs.Answers.{leadAnswer, outAfter, workAfter, entryOf, entryAnswer}
 use Rattle.packing.specs.Packing.{bytesFor, packed}
 use Rattle.shortest.specs.Shortest.{areBits, Stream}
 use Rattle.encode.specs.declared.Coded.{Coded}
-use Rattle.encode.specs.Encoding.{tablesGiven, askedRight, givenRight, workRight, Encoded}
+use Rattle.encode.specs.Encoding.{tablesGiven, askedRight, tablesGivenRight, workRight, Encoded}
 use Rattle.compose.specs.declared.Written.{Written}
 use Rattle.compose.specs.Writing.{Job, longest, jobRight, recordOf, Wrote}
-use Rattle.trip.specs.GivenBack.{JobBytes, GivenBack, samplesOf}
+use Rattle.trip.specs.GivenBack.{JobFits, GivenBack, samplesOf}
 
 -- ---- the rules in a row
 
@@ -69,19 +69,19 @@ abbrev pub rowsOpened : List ℕ → List Bool
 rowsOpened r = lengthRight r ∷ recordCheckRight r ∷ section0Right r ∷ allPlacedRight r ∷ checksRight r ∷ fieldsRight r ∷ []
 
 abbrev pub rowsLead : List ℕ → ℕ → List Bool
-rowsLead r place = rowsOpened r ++ (tablesRight r ∷ leadsRight r ∷ agrees r ∷ hasLead r place ∷ [])
+rowsLead r place = rowsOpened r ++ (tablesRight r ∷ sections3To6Right r ∷ agrees r ∷ hasLead r place ∷ [])
 
 abbrev pub rowsRead : List ℕ → ℕ → ℕ → ℕ → List Bool
 rowsRead r place room work = rowsLead r place ++ (roomRight r (place - 1) room work ∷ [])
 
 -- 17, 7 and 11 for work space, asked of a lead to be encoded; 17, 6, 7 and 11 for work space, of a job
 abbrev pub rowsAsked : List ℕ → ℕ → ℕ → ℕ → List Bool
-rowsAsked s2 count order work = askedRight count order ∷ givenRight s2 ∷ workRight s2 count work ∷ []
+rowsAsked s2 count order work = askedRight count order ∷ tablesGivenRight s2 ∷ workRight s2 count work ∷ []
 
 abbrev pub rowsJob : Job → ℕ → List Bool
 rowsJob j work =
-    jobRight j ∷ section1Right 0 (j .section1) 0 ∷ givenRight (j .section2)
-    ∷ leb (longest (j .counts) * length (tablesGiven (j .section2))) work ∷ []
+    jobRight j ∷ section1Right 0 (j .section1) 0 ∷ tablesGivenRight (j .section2)
+    ∷ workRight (j .section2) (longest (j .counts)) work ∷ []
 
 -- ---- answers that hold a refusal and nothing else
 
@@ -132,7 +132,7 @@ pub record Demand1 : Type 0 where
       → (a ≡ noRecord (suc n)) × (o ≡ out)
   -- work space is zeros, all of it, once a beat's reading or a search has begun, refused or not, and untouched otherwise
   pub work-read : (r : List ℕ) (place room : ℕ) (work : List ℤ)
-      → workAfter r place room work ≡ cond (allKept (rowsRead r place room (length work)) && hasBeat r) (replicate (length work) (pos 0)) work
+      → workAfter r place room work ≡ cond (allKept (rowsRead r place room (length work)) && beatSubtracted r) (replicate (length work) (pos 0)) work
   pub work-coded : (s2 : List ℕ) (xs : List ℤ) (order : ℕ) (work out : List ℕ) (a : Coded) (w o : List ℕ) → Encoded s2 xs order work out a w o
       → w ≡ cond (allKept (rowsAsked s2 (length xs) order (length work)) && not (eqb (length s2) 0)) (replicate (length work) 0) work
   pub work-written : (j : Job) (work out : List ℕ) (a : Written) (w o : List ℕ) → Wrote j work out a w o
@@ -169,9 +169,9 @@ pub record Demand2 : Type 0 where
         interval = intervalOf (sectionOf r 6);
         first = firstSample (sectionOf r 3) (place - 1);
         count = length xs;
-      }) × (outAfter (readTrace r place room work) out ≡ xs ++ drop (length xs) out) × (length xs ≡ countAt r (place - 1))
+      }) × (outAfter (readTrace r place room work) out ≡ xs ++ drop (length xs) out) × (length xs ≡ sampleCountAt r (place - 1))
   -- rebuilding undoes the differences: a stream for those of some samples, with fewer than 8 bits behind it, is rebuilt to the samples
-  pub undone : (s2 : List ℕ) (order : ℕ) (xs : List ℤ) (bs rest : List ℕ) → givenRight s2 ≡ true → every fits16 xs ≡ true
+  pub undone : (s2 : List ℕ) (order : ℕ) (xs : List ℤ) (bs rest : List ℕ) → tablesGivenRight s2 ≡ true → every fits16 xs ≡ true
       → Stream (tablesGiven s2) (differences order xs) bs → length rest < 8
       → rebuild (tablesGiven s2) order (length xs) (bs ++ rest) ≡ rebuilt xs
   -- what encoding a lead answers is read to its samples
@@ -179,7 +179,7 @@ pub record Demand2 : Type 0 where
       → Encoded s2 xs order work out a w o → a .refusal ≡ 0
       → rebuild (tablesGiven s2) order (length xs) (bitsIn (take (a .bytes) o)) ≡ rebuilt xs
   -- what the writer accepts and writes, the reader gives back
-  pub given-back : (j : Job) (work out : List ℕ) (a : Written) (w o : List ℕ) → JobBytes j → Wrote j work out a w o → a .refusal ≡ 0
+  pub given-back : (j : Job) (work out : List ℕ) (a : Written) (w o : List ℕ) → JobFits j → Wrote j work out a w o → a .refusal ≡ 0
       → GivenBack j (take (a .bytes) o)
 
 -- ---- the third demand: the writer's stream has the fewest bits of all that are read to the samples
@@ -239,11 +239,11 @@ pub data Writes (j : Job) (out : List ℕ) : Written → List ℕ → Type 0 whe
 pub record Demand3 : Type 0 where
   -- any accepted tables, or none; 1 to 65,536 samples of 16 bits; an order of 0 to 2; enough work space
   pub encoding : (s2 : List ℕ) (xs : List ℤ) (order : ℕ) (work out : List ℕ) (a : Coded) (w o : List ℕ)
-      → givenRight s2 ≡ true → 1 ≤ length xs → length xs ≤ 65536 → every fits16 xs ≡ true → order ≤ 2
+      → tablesGivenRight s2 ≡ true → 1 ≤ length xs → length xs ≤ 65536 → every fits16 xs ≡ true → order ≤ 2
       → length xs * length (tablesGiven s2) ≤ length work → Encoded s2 xs order work out a w o
       → Encodes (tablesGiven s2) order xs out a o
   -- and every job that is asked right
-  pub writing : (j : Job) (work out : List ℕ) (a : Written) (w o : List ℕ) → JobBytes j → AllKept (rowsJob j (length work))
+  pub writing : (j : Job) (work out : List ℕ) (a : Written) (w o : List ℕ) → JobFits j → AllKept (rowsJob j (length work))
       → Wrote j work out a w o → Writes j out a o
 
 -- ---- any two outcomes that a contract allows are equal (01, What the contracts have to settle)

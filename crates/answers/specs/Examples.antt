@@ -8,15 +8,15 @@ use lib.ListN.{length}
 use Rattle.wire.specs.Numbers.{part}
 use Rattle.header.specs.declared.Step.the-variants.{Found}
 use Rattle.header.specs.Fields.{stepAt}
-use Rattle.bits.specs.Bits.{lowBits, bitsIn}
+use Rattle.bits.specs.Bits.{lowFirst, bitsIn}
 use Rattle.tables.specs.declared.Structure.{Structure}
 use Rattle.tables.specs.Section2.{tablesIn, section2Right}
 use Rattle.reading.specs.Reading.{Next, gave, stuck, readNext}
 use Rattle.shortest.specs.Shortest.{Takes}
 use Rattle.encode.specs.declared.Coded.{Coded}
-use Rattle.encode.specs.Encoding.{tablesGiven, givenRight, Encoded}
+use Rattle.encode.specs.Encoding.{tablesGiven, tablesGivenRight, Encoded}
 use Rattle.samples.specs.Differences.{differences}
-use Rattle.entries.specs.Beat.{beatSamples}
+use Rattle.entries.specs.Beat.{samplesInBeat}
 use Rattle.fields.specs.Identifier.{same}
 
 -- Section 2's data of the two tables of 000, C.2.7.3
@@ -86,7 +86,7 @@ pub record Examples : Type 0 where
       ≡ values valuesP3 (1 ∷ 1 ∷ 1 ∷ 1 ∷ 1 ∷ 1 ∷ 1 ∷ []) 1
   pub p3-bits : Takes (tablesIn namedDefault 0) valuesP3 71
   -- P4: a stored code, its lowest bit first
-  pub p4 : lowBits 4 11 ≡ 1 ∷ 1 ∷ 0 ∷ 1 ∷ []
+  pub p4 : lowFirst 4 11 ≡ 1 ∷ 1 ∷ 0 ∷ 1 ∷ []
   -- P5: the two tables keep their rule, and the bytes are read to the values, to table 2 and back; 4 of the 96 bits are left
   pub p5-tables : section2Right 0 twoTables 0 ≡ true
   pub p5 : readMany 20 (tablesIn twoTables 0) 1 (bitsIn (153 ∷ 94 ∷ 6 ∷ 240 ∷ 72 ∷ 222 ∷ 128 ∷ 253 ∷ 1 ∷ 189 ∷ 54 ∷ 192 ∷ []))
@@ -98,10 +98,10 @@ pub record Examples : Type 0 where
   pub p7-twice : Takes (tablesIn twoTables 0) (pos 15 ∷ pos 15 ∷ []) 22
   pub p7-table : readMany 2 (tablesIn twoTables 0) 1 (bitsIn (224 ∷ 120 ∷ 60 ∷ [])) ≡ values (pos 15 ∷ pos 15 ∷ []) (2 ∷ 2 ∷ []) 2
   -- P8: N by the beat's length in ms and the interval in µs
-  pub p8 : beatSamples 1000 2000 ≡ 500
+  pub p8 : samplesInBeat 1000 2000 ≡ 500
   -- P9: the third value stored, and the refusal, by any tables that are right or by none, with work space enough and whatever the output
   pub p9-values : differences 2 samplesP9 ≡ negsuc 32767 ∷ pos 32767 ∷ negsuc 131069 ∷ []
-  pub p9 : (s2 work out : List ℕ) (a : Coded) (w o : List ℕ) → givenRight s2 ≡ true → 3 * length (tablesGiven s2) ≤ length work
+  pub p9 : (s2 work out : List ℕ) (a : Coded) (w o : List ℕ) → tablesGivenRight s2 ≡ true → 3 * length (tablesGiven s2) ≤ length work
       → Encoded s2 samplesP9 2 work out a w o → a .refusal ≡ 15
   -- P10: what the two fields show, and that it is not the same
   pub p10-fields : (stepAt field007 0 ≡ Found (record { tag = 2; start = 3; end = 7 })) × (part field007 3 7 ≡ id007)

@@ -12,11 +12,11 @@ use lib.ListN.{length, getD, take, drop, set, length-set}
 use lib.Seq.{take-all, take-suc-set, getD-set-other}
 use Rattle.bits.specs.InnerRaised.{lower}
 use Rattle.bits.proofs.Raised.{lower-plus, lower-same}
-use Rattle.entries.specs.Beat.{zoneCount}
+use Rattle.entries.specs.Beat.{qrsCount}
 use Rattle.samples.specs.Trace.{rebuilt, fault, fits16}
 use Rattle.samples.specs.InnerTrace.{before}
 use Rattle.samples.proofs.Laws.{before-none, before-more, fits-lower}
-use Rattle.beats.specs.Sums.{beatPlaceFrom, beatPlace, beatSample, addBeat}
+use Rattle.beats.specs.Sums.{beatPlaceFrom, beatPlace, beatValueAt, addBeat}
 use Rattle.beats.specs.InnerZones.{Alike}
 use Rattle.beats.proofs.Laws.{add-more, add-fault, add-end}
 
@@ -30,11 +30,11 @@ pub record Reached (s : List ℕ) (beat : List ℤ) (first : ℕ) (xs : List ℤ
   pub whole : addBeat s beat first xs ≡ before (take i room) (addBeat s beat (first + i) (drop i xs))
 
 -- at the start
-pub reached-none : (s : List ℕ) (beat : List ℤ) (first : ℕ) (xs : List ℤ) (zones : ℕ) → zones ≡ zoneCount s
+pub reached-none : (s : List ℕ) (beat : List ℤ) (first : ℕ) (xs : List ℤ) (zones : ℕ) → zones ≡ qrsCount s
     → Reached s beat first xs zones xs 0 0
 unfolding beatPlace
 reached-none s beat first xs zones e =
-    let n : zones - 0 ≡ zoneCount s = omega arith in
+    let n : zones - 0 ≡ qrsCount s = omega arith in
     record {
       within = omega arith;
       long = refl;
@@ -58,15 +58,15 @@ pub record Turn (s : List ℕ) (beat : List ℤ) (first : ℕ) (xs : List ℤ) (
   pub zone : next ≤ zones
   pub alike : Alike s zones k next (first + i)
   pub own : lower 32768 x ≡ getD room i (pos 0)
-  pub added : lower 32768 b ≡ beatSample beat (beatPlaceFrom s (zones - next) next (first + i))
+  pub added : lower 32768 b ≡ beatValueAt beat (beatPlaceFrom s (zones - next) next (first + i))
 
 module _ {s : List ℕ} {beat : List ℤ} {first : ℕ} {xs : List ℤ} {zones : ℕ} {room : List ℤ} {k i next x b : ℕ}
     (t : Turn s beat first xs zones room k i next x b) where
-  turn-sum : getD xs i (pos 0) +ℤ beatSample beat (beatPlace s (first + i)) ≡ lower 65536 (x + b)
+  turn-sum : getD xs i (pos 0) +ℤ beatValueAt beat (beatPlace s (first + i)) ≡ lower 65536 (x + b)
   turn-sum =
       let r = t .reached in
       let place = r .places (first + i) (omega arith) ∙ t .alike (first + i) (omega arith) in
-      ap₂ _+ℤ_ (sym (t .own ∙ r .rest i (omega arith))) (ap (beatSample beat) place ∙ sym (t .added)) ∙ lower-plus 32768 x 32768 b
+      ap₂ _+ℤ_ (sym (t .own ∙ r .rest i (omega arith))) (ap (beatValueAt beat) place ∙ sym (t .added)) ∙ lower-plus 32768 x 32768 b
 
   turn-fault : fits16 (lower 65536 (x + b)) ≡ false → fault 13 ≡ addBeat s beat first xs
   turn-fault f =

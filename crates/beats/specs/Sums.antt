@@ -6,29 +6,29 @@ use mathlib.Core.List.{List, [], _∷_}
 use lib.Dec.{leb, eqb}
 use lib.IntN.{ℤ, pos, _+ℤ_}
 use lib.ListN.{getD}
-use Rattle.entries.specs.Beat.{fiducialOf, zoneCount, zoneType, zoneBegin, zoneFiducial, zoneEnd}
+use Rattle.entries.specs.Beat.{fiducialOf, qrsCount, qrsType, zoneBegin, qrsFiducial, zoneEnd}
 use Rattle.samples.specs.Trace.{Trace, rebuilt, afterSample}
 
 -- sample n stands in zone k, which is of type 0
 unfoldable pub inZone : List ℕ → ℕ → ℕ → Bool
-inZone s k n = eqb (zoneType s k) 0 && (leb (zoneBegin s k) n && leb n (zoneEnd s k))
+inZone s k n = eqb (qrsType s k) 0 && (leb (zoneBegin s k) n && leb n (zoneEnd s k))
 
 -- the sample of the beat that sample n gets, by the first of so many zones from k on that it stands in: n - C + F; 0 for none
 unfoldable pub beatPlaceFrom : List ℕ → ℕ → ℕ → ℕ → ℕ
 beatPlaceFrom s zero k n = 0
-beatPlaceFrom s (suc zones) k n = cond (inZone s k n) (n + fiducialOf s - zoneFiducial s k) (beatPlaceFrom s zones (k + 1) n)
+beatPlaceFrom s (suc zones) k n = cond (inZone s k n) (n + fiducialOf s - qrsFiducial s k) (beatPlaceFrom s zones (k + 1) n)
 
 -- the same by all zones of the section. Zones of type 0 do not overlap, so that sample n stands in
 -- one at most; no other type adds anything
 unfoldable pub beatPlace : List ℕ → ℕ → ℕ
-beatPlace s n = beatPlaceFrom s (zoneCount s) 0 n
+beatPlace s n = beatPlaceFrom s (qrsCount s) 0 n
 
 -- the beat's sample of a number, from 1; nothing is added where the number is 0
-unfoldable pub beatSample : List ℤ → ℕ → ℤ
-beatSample beat zero = pos 0
-beatSample beat (suc j) = getD beat j (pos 0)
+unfoldable pub beatValueAt : List ℤ → ℕ → ℤ
+beatValueAt beat zero = pos 0
+beatValueAt beat (suc j) = getD beat j (pos 0)
 
 -- a lead's samples with the beat added, from sample n on; 13 where a sum is outside 16 bits
 unfoldable pub addBeat : List ℕ → List ℤ → ℕ → List ℤ → Trace
 addBeat s beat n [] = rebuilt []
-addBeat s beat n (x ∷ xs) = afterSample (λ y. addBeat s beat (n + 1) xs) (x +ℤ beatSample beat (beatPlace s n))
+addBeat s beat n (x ∷ xs) = afterSample (λ y. addBeat s beat (n + 1) xs) (x +ℤ beatValueAt beat (beatPlace s n))

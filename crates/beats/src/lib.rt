@@ -4,15 +4,15 @@ ghost use mathlib.Core.Bool.{true, false};
 ghost use Prim.Native.Nat.{ℕ, _+_, _-_, _<_, _≤_};
 ghost use lib.ListN.{length};
 ghost use Rattle.bits.specs.InnerRaised.{lower};
-ghost use Rattle.entries.specs.Beat.{zoneCount, zoneType, zoneEnd, section4Right};
-ghost use Rattle.samples.specs.Trace.{traceOf};
-ghost use Rattle.beats.specs.Sums.{inZone, beatPlaceFrom, beatSample, addBeat};
+ghost use Rattle.entries.specs.Beat.{qrsCount, qrsType, zoneEnd, section4Right};
+ghost use Rattle.samples.specs.InnerTrace.{traceOf};
+ghost use Rattle.beats.specs.Sums.{inZone, beatPlaceFrom, beatValueAt, addBeat};
 ghost use Rattle.beats.specs.InnerZones.{Reaches, Alike};
 
 // Zone k is of type 0 and does not end before sample n.
 fn reaches(s: &[u8], k: usize, n: usize) -> bool
     requires { ⌜ k < 65536 ⌝ }
-    ensures { λ r. ⌜ (r ≡ true → (zoneType (now (s .entry)) k ≡ 0) × (n ≤ zoneEnd (now (s .entry)) k)) × (r ≡ false → (m : ℕ) → n ≤ m → inZone (now (s .entry)) k m ≡ false) ⌝ }
+    ensures { λ r. ⌜ (r ≡ true → (qrsType (now (s .entry)) k ≡ 0) × (n ≤ zoneEnd (now (s .entry)) k)) × (r ≡ false → (m : ℕ) → n ≤ m → inZone (now (s .entry)) k m ≡ false) ⌝ }
 {
     if entries::zone_type(s, k) != 0 {
         return false;
@@ -37,8 +37,8 @@ fn zone_for(s: &[u8], zones: usize, k: usize, n: usize) -> usize
 
 // What sample n gets by zone k, the first that reaches it, 32,768 added: a sample of the beat, or 0.
 fn beat_by(s: &[u8], beat: &[i16], zones: usize, k: usize, n: usize) -> usize
-    requires { ⌜ (section4Right (length (now beat)) (now s) ≡ true) × (zones ≡ zoneCount (now s)) × (k ≤ zones) × (n ≤ 8589934592) × Reaches (now s) zones k n ⌝ }
-    ensures { λ r. ⌜ (lower 32768 r ≡ beatSample (now (beat .entry)) (beatPlaceFrom (now (s .entry)) (zones - k) k n)) × (r < 65536) ⌝ }
+    requires { ⌜ (section4Right (length (now beat)) (now s) ≡ true) × (zones ≡ qrsCount (now s)) × (k ≤ zones) × (n ≤ 8589934592) × Reaches (now s) zones k n ⌝ }
+    ensures { λ r. ⌜ (lower 32768 r ≡ beatValueAt (now (beat .entry)) (beatPlaceFrom (now (s .entry)) (zones - k) k n)) × (r < 65536) ⌝ }
 {
     if k == zones {
         return 32768;

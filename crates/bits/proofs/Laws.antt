@@ -12,23 +12,23 @@ use lib.Dec.{eqb}
 use lib.ListN.{length, getD, take, drop, length-take, length-drop}
 use lib.Pow.{high, low, mod-pow-add}
 use lib.Seq.{getD-drop, take-add}
-use Rattle.bits.specs.Bits.{highBits, lowBits, bitsIn, numberAfter, numberOf, begins}
+use Rattle.bits.specs.Bits.{highFirst, lowFirst, bitsIn, numberAfter, numberOf, begins}
 
 -- w bits of a number, the highest first, are w
-pub length-highBits : (w n : ℕ) → length (highBits w n) ≡ w
-unfolding highBits
-length-highBits zero n = refl
-length-highBits (suc w) n = ap suc (length-highBits w n)
+pub length-highFirst : (w n : ℕ) → length (highFirst w n) ≡ w
+unfolding highFirst
+length-highFirst zero n = refl
+length-highFirst (suc w) n = ap suc (length-highFirst w n)
 
 -- w bits of a number, the lowest first, are w
-pub length-lowBits : (w n : ℕ) → length (lowBits w n) ≡ w
-unfolding lowBits
-length-lowBits zero n = refl
-length-lowBits (suc w) n = ap suc (length-lowBits w (n / 2))
+pub length-lowFirst : (w n : ℕ) → length (lowFirst w n) ≡ w
+unfolding lowFirst
+length-lowFirst zero n = refl
+length-lowFirst (suc w) n = ap suc (length-lowFirst w (n / 2))
 
 -- each byte has eight bits
 pub length-bitsIn : (s : List ℕ) → length (bitsIn s) ≡ length s * 8
-unfolding bitsIn highBits
+unfolding bitsIn highFirst
 length-bitsIn [] = refl
 length-bitsIn (b ∷ s) = let h = length-bitsIn s in omega arith
 
@@ -36,7 +36,7 @@ length-bitsIn (b ∷ s) = let h = length-bitsIn s in omega arith
 pub bitsIn-append : (s t : List ℕ) → bitsIn (s ++ t) ≡ bitsIn s ++ bitsIn t
 unfolding bitsIn
 bitsIn-append [] t = refl
-bitsIn-append (b ∷ s) t = rw (bitsIn-append s t, append-assoc (highBits 8 b) (bitsIn s) (bitsIn t))
+bitsIn-append (b ∷ s) t = rw (bitsIn-append s t, append-assoc (highFirst 8 b) (bitsIn s) (bitsIn t))
 
 -- each bit of a list is 0 or 1
 abbrev pub Small : List ℕ → Type 0
@@ -65,24 +65,24 @@ small-behind [] l h i = h i
 small-behind (b ∷ k) l h i = small-behind k l (λ j. h (suc j)) i
 
 -- the bits of a number, the highest first, are 0 or 1
-pub small-highBits : (w n : ℕ) → Small (highBits w n)
-unfolding highBits
-small-highBits zero n i = omega arith
-small-highBits (suc w) n zero = omega arith
-small-highBits (suc w) n (suc i) = small-highBits w n i
+pub small-highFirst : (w n : ℕ) → Small (highFirst w n)
+unfolding highFirst
+small-highFirst zero n i = omega arith
+small-highFirst (suc w) n zero = omega arith
+small-highFirst (suc w) n (suc i) = small-highFirst w n i
 
 -- the bits of a number, the lowest first, are 0 or 1
-pub small-lowBits : (w n : ℕ) → Small (lowBits w n)
-unfolding lowBits
-small-lowBits zero n i = omega arith
-small-lowBits (suc w) n zero = omega arith
-small-lowBits (suc w) n (suc i) = small-lowBits w (n / 2) i
+pub small-lowFirst : (w n : ℕ) → Small (lowFirst w n)
+unfolding lowFirst
+small-lowFirst zero n i = omega arith
+small-lowFirst (suc w) n zero = omega arith
+small-lowFirst (suc w) n (suc i) = small-lowFirst w (n / 2) i
 
 -- the bits of bytes are 0 or 1
 pub small-bitsIn : (s : List ℕ) → Small (bitsIn s)
 unfolding bitsIn
 small-bitsIn [] i = omega arith
-small-bitsIn (b ∷ s) i = small-append (highBits 8 b) (bitsIn s) (small-highBits 8 b) (small-bitsIn s) i
+small-bitsIn (b ∷ s) i = small-append (highFirst 8 b) (bitsIn s) (small-highFirst 8 b) (small-bitsIn s) i
 
 -- bits after bits: the number of the first is carried on
 pub number-append : (a : ℕ) (k l : List ℕ) → numberAfter a (k ++ l) ≡ numberAfter (numberAfter a k) l
@@ -128,22 +128,22 @@ number-one (a ∷ k) (b ∷ l) hk hl e n =
     ap₂ _∷_ first (number-one k l (λ i. hk (suc i)) (λ i. hl (suc i)) m rest)
 
 -- the w lowest bits of a number are its remainder
-number-mod : (w n : ℕ) → numberOf (highBits w n) ≡ n % 2 ^ w
-unfolding highBits numberAfter
+number-mod : (w n : ℕ) → numberOf (highFirst w n) ≡ n % 2 ^ w
+unfolding highFirst numberAfter
 number-mod zero n = omega arith
 number-mod (suc w) n =
-    rw (number-cons (n / 2 ^ w % 2) (highBits w n), length-highBits w n, number-mod w n, ← one-add w, mod-pow-add n 1 w)
+    rw (number-cons (n / 2 ^ w % 2) (highFirst w n), length-highFirst w n, number-mod w n, ← one-add w, mod-pow-add n 1 w)
 
 -- a number of w bits is the number that its bits are
-pub number-high : (w n : ℕ) → n < 2 ^ w → numberOf (highBits w n) ≡ n
+pub number-high : (w n : ℕ) → n < 2 ^ w → numberOf (highFirst w n) ≡ n
 number-high w n h = number-mod w n ∙ mod-eq-of-lt h
 
 -- w bits are those of their number
-pub own-bits : (l : List ℕ) (w : ℕ) → Small l → length l ≡ w → highBits w (numberOf l) ≡ l
+pub own-bits : (l : List ℕ) (w : ℕ) → Small l → length l ≡ w → highFirst w (numberOf l) ≡ l
 own-bits l w h e =
     let x = numberOf l in
     let small : x < 2 ^ w = rw e at (number-small l h) in
-    number-one (highBits w x) l (small-highBits w x) h (length-highBits w x ∙ sym e) (number-high w x small)
+    number-one (highFirst w x) l (small-highFirst w x) h (length-highFirst w x ∙ sym e) (number-high w x small)
 
 -- the first k + m bits are the first k above the m that follow
 pub number-split : (l : List ℕ) (k m : ℕ) → k + m ≤ length l
@@ -179,8 +179,8 @@ begins-split (a ∷ p) (b ∷ l) h = go (eqb a b) refl h (begins-split p l)
     go false e g rest = cc
 
 -- p bits do not begin fewer
-pub begins-short : (p c : ℕ) (l : List ℕ) → length l < p → begins (lowBits p c) l ≡ false
-unfolding begins lowBits
+pub begins-short : (p c : ℕ) (l : List ℕ) → length l < p → begins (lowFirst p c) l ≡ false
+unfolding begins lowFirst
 begins-short zero c l h = absurd (omega arith)
 begins-short (suc p) c [] h = refl
 begins-short (suc p) c (b ∷ l) h = rw (begins-short p (c / 2) l (omega arith)) (and-false (eqb (c % 2) b))

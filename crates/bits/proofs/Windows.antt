@@ -11,31 +11,31 @@ use lib.ListN.{length, getD, take, drop, replicate, length-take, length-drop, ta
 use lib.Pow.{high, low, field, shr-shr, shl-shr}
 use lib.Seq.{drop-cons, drop-drop, drop-nil, drop-append-add, drop-append-le}
 use lib.Seq.{take-append-add, take-append-le, take-append-seam, length-take-le}
-use Rattle.bits.specs.Bits.{highBits, lowBits, bitsIn, numberAfter, numberOf, begins}
+use Rattle.bits.specs.Bits.{highFirst, lowFirst, bitsIn, numberAfter, numberOf, begins}
 use Rattle.bits.specs.InnerWindow.{Window, turned}
-use Rattle.bits.proofs.Laws.{length-lowBits, length-bitsIn, bitsIn-append, Small, small-take, small-drop}
-use Rattle.bits.proofs.Laws.{small-lowBits, small-bitsIn, number-append, number-after, number-small, number-one}
+use Rattle.bits.proofs.Laws.{length-lowFirst, length-bitsIn, bitsIn-append, Small, small-take, small-drop}
+use Rattle.bits.proofs.Laws.{small-lowFirst, small-bitsIn, number-append, number-after, number-small, number-one}
 use Rattle.bits.proofs.Laws.{number-high, number-split, begins-append, begins-split}
 
 -- the bits from a byte on are those of the bytes from there on
 bitsIn-drop : (j : ℕ) (s : List ℕ) → drop (j * 8) (bitsIn s) ≡ bitsIn (drop j s)
-unfolding bitsIn highBits
+unfolding bitsIn highFirst
 bitsIn-drop zero s = refl
 bitsIn-drop (suc j) [] = drop-nil (suc j * 8)
 bitsIn-drop (suc j) (b ∷ s) =
     let e : suc j * 8 ≡ 8 + j * 8 = omega arith in
-    rw e (drop-append-add (highBits 8 b) (bitsIn s) (j * 8) ∙ bitsIn-drop j s)
+    rw e (drop-append-add (highFirst 8 b) (bitsIn s) (j * 8) ∙ bitsIn-drop j s)
 
 -- the byte b at j is read after the number a, and the bits from the next byte j′ on are left: n of m
 pub byte-more : (s : List ℕ) (j j′ a b m n : ℕ) → j′ ≡ j + 1 → m ≡ 8 + n → j < length s → b ≡ getD s j 0 → b < 256
     → numberAfter a (take m (drop (j * 8) (bitsIn s))) ≡ numberAfter (a * 256 + b) (take n (drop (j′ * 8) (bitsIn s)))
-unfolding bitsIn highBits
+unfolding bitsIn highFirst
 byte-more s j j′ a b m n ej em h eb hb =
     let rest = bitsIn (drop (suc j) s) in
-    let own : numberAfter a (highBits 8 b) ≡ a * 256 + b = rw (number-after a (highBits 8 b), number-high 8 b hb) in
+    let own : numberAfter a (highFirst 8 b) ≡ a * 256 + b = rw (number-after a (highFirst 8 b), number-high 8 b hb) in
     rw (ej, em, add-one j, bitsIn-drop j s, bitsIn-drop (suc j) s, drop-cons s j 0 h, ← eb)
-    (ap (numberAfter a) (take-append-add (highBits 8 b) rest n)
-    ∙ number-append a (highBits 8 b) (take n rest)
+    (ap (numberAfter a) (take-append-add (highFirst 8 b) rest n)
+    ∙ number-append a (highFirst 8 b) (take n rest)
     ∙ ap (λ (x : ℕ). numberAfter x (take n rest)) own)
 
 -- zeros behind bytes are what stands past their end
@@ -115,8 +115,8 @@ begins-number p l sp sl h = go (begins p l) refl
 
 -- the first p bits of a window are a turned code where the code's bits begin the stream, and nowhere else
 pub window-begins : (bs : List ℕ) (w p c : ℕ) → Window bs w → Small bs → p ≤ 57 → p ≤ length bs
-    → eqb (w / 2 ^ (64 - p)) (turned p c) ≡ begins (lowBits p c) bs
+    → eqb (w / 2 ^ (64 - p)) (turned p c) ≡ begins (lowFirst p c) bs
 unfolding turned
 window-begins bs w p c seen small h l =
-    let e = length-lowBits p c in
-    rw (seen p h l) (rw e at (begins-number (lowBits p c) bs (small-lowBits p c) small (omega arith)))
+    let e = length-lowFirst p c in
+    rw (seen p h l) (rw e at (begins-number (lowFirst p c) bs (small-lowFirst p c) small (omega arith)))

@@ -7,19 +7,19 @@ use lib.IntN.{ℤ, pos, negsuc}
 use lib.Dec.{ltb, eqb}
 
 -- the w lowest bits of a number, the most significant first
-unfoldable pub highBits : ℕ → ℕ → List ℕ
-highBits zero n = []
-highBits (suc w) n = n / 2 ^ w % 2 ∷ highBits w n
+unfoldable pub highFirst : ℕ → ℕ → List ℕ
+highFirst zero n = []
+highFirst (suc w) n = n / 2 ^ w % 2 ∷ highFirst w n
 
 -- the w lowest bits of a number, the lowest first
-unfoldable pub lowBits : ℕ → ℕ → List ℕ
-lowBits zero n = []
-lowBits (suc w) n = n % 2 ∷ lowBits w (n / 2)
+unfoldable pub lowFirst : ℕ → ℕ → List ℕ
+lowFirst zero n = []
+lowFirst (suc w) n = n % 2 ∷ lowFirst w (n / 2)
 
 -- the bits of bytes: eight for each, the most significant first
 unfoldable pub bitsIn : List ℕ → List ℕ
 bitsIn [] = []
-bitsIn (b ∷ bs) = highBits 8 b ++ bitsIn bs
+bitsIn (b ∷ bs) = highFirst 8 b ++ bitsIn bs
 
 -- the number that bits are, the most significant first, read on after the number a; `numberOf` is that of the bits alone
 unfoldable pub numberAfter : ℕ → List ℕ → ℕ

@@ -3,7 +3,7 @@ use Prim.Native.Nat.{ℕ, _-_, _/_, _^_, _≤_}
 use mathlib.Core.Path.{_≡_}
 use mathlib.Core.List.{List}
 use lib.ListN.{length, take}
-use Rattle.bits.specs.Bits.{lowBits, numberOf}
+use Rattle.bits.specs.Bits.{lowFirst, numberOf}
 
 -- the highest bits of w are the first of the bits bs, as far as there are any, up to 57
 abbrev pub Window : List ℕ → ℕ → Type 0
@@ -11,4 +11,4 @@ Window bs w = (k : ℕ) → k ≤ 57 → k ≤ length bs → w / 2 ^ (64 - k) �
 
 -- the number that the p lowest bits of c are with the lowest first
 unfoldable pub turned : ℕ → ℕ → ℕ
-turned p c = numberOf (lowBits p c)
+turned p c = numberOf (lowFirst p c)

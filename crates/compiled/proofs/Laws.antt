@@ -10,12 +10,13 @@ use borrow.Author.Tests.{le-leb, lt-ltb, eq-eqb, eqb-true, eqb-false}
 use lib.Dec.{eqb}
 use lib.ListN.{length, getD, List·getD-eq-default}
 use lib.Pow.{pow-mono}
-use Rattle.bits.specs.Bits.{lowBits}
+use Rattle.bits.specs.Bits.{lowFirst}
 use Rattle.bits.specs.InnerWindow.{turned}
-use Rattle.bits.proofs.Laws.{length-lowBits, small-lowBits, number-small}
+use Rattle.bits.proofs.Laws.{length-lowFirst, small-lowFirst, number-small}
 use Rattle.tables.specs.declared.Structure.{Structure}
-use Rattle.tables.specs.Structures.{noStructure, remainderOf, modeRight, structureRight}
+use Rattle.tables.specs.Structures.{remainderOf, modeRight, structureRight}
 use Rattle.tables.proofs.Laws.{Fine, fine, RightTable, every-at, right-at}
+use Rattle.tables.specs.InnerStructures.{noStructure}
 pub use Rattle.tables.proofs.Laws.{length-tables}
 use Rattle.compiled.specs.declared.Form.{Form}
 use Rattle.compiled.specs.InnerForm.{lowest, beyond, formOf, formAt, Ready, Holding}
@@ -40,7 +41,7 @@ beyond-small base (suc w) h = omega (arith, pow-mono {i = w} {j = 15} (omega ari
 -- a turned code of p bits
 turned-small : (p c : ℕ) → turned p c < 2 ^ p
 unfolding turned
-turned-small p c = rw (length-lowBits p c) at (number-small (lowBits p c) (small-lowBits p c))
+turned-small p c = rw (length-lowFirst p c) at (number-small (lowFirst p c) (small-lowFirst p c))
 
 -- the numbers of a right structure's form
 pub record FineForm (f : Form) : Type 0 where

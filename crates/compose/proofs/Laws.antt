@@ -12,7 +12,7 @@ use lib.IntN.{ℤ}
 use Rattle.wire.specs.Rules.{allIn}
 use Rattle.wire.proofs.Laws.{all-at}
 use Rattle.header.specs.Header.{section1Right}
-use Rattle.encode.specs.Encoding.{tablesGiven, givenRight}
+use Rattle.encode.specs.Encoding.{tablesGiven, tablesGivenRight, workRight}
 use Rattle.encode.proofs.Laws.{passed}
 use Rattle.compose.specs.declared.Head.{Head}
 use Rattle.compose.specs.Writing.{Job, jobOf, total, longest, leadAsked, jobRight, jobRefusal}
@@ -57,27 +57,27 @@ right-apart s1 s2 head firsts counts ids xs e = e
 
 module _ (j : Job) (work : ℕ) where
   pub refused-asked : jobRight j ≡ false → 17 ≡ jobRefusal j work
-  unfolding jobRefusal
+  unfolding jobRefusal workRight
   refused-asked e = rw e
 
   module _ (asked : jobRight j ≡ true) where
     pub refused-header : section1Right 0 (j .section1) 0 ≡ false → 6 ≡ jobRefusal j work
-    unfolding jobRefusal
+    unfolding jobRefusal workRight
     refused-header e = rw (asked, e)
 
     module _ (header : section1Right 0 (j .section1) 0 ≡ true) where
-      pub refused-given : givenRight (j .section2) ≡ false → 7 ≡ jobRefusal j work
-      unfolding jobRefusal
+      pub refused-given : tablesGivenRight (j .section2) ≡ false → 7 ≡ jobRefusal j work
+      unfolding jobRefusal workRight
       refused-given e = rw (asked, header, e)
 
-      module _ (given : givenRight (j .section2) ≡ true) (m n : ℕ) (long : m ≡ longest (j .counts))
+      module _ (given : tablesGivenRight (j .section2) ≡ true) (m n : ℕ) (long : m ≡ longest (j .counts))
           (many : n ≡ length (tablesGiven (j .section2))) where
         pub refused-work : work < m * n → 11 ≡ jobRefusal j work
-        unfolding jobRefusal
+        unfolding jobRefusal workRight
         refused-work l = rw (asked, header, given, ← long, ← many, lt-leb (m * n) work l)
 
         pub refused-none : m * n ≤ work → 0 ≡ jobRefusal j work
-        unfolding jobRefusal
+        unfolding jobRefusal workRight
         refused-none l = rw (asked, header, given, ← long, ← many, le-leb (m * n) work l)
 
 -- ---- nothing is refused before the search
@@ -134,13 +134,13 @@ right-says j t =
 
 -- the streams are looked for
 module _ (j : Job) (work : ℕ) (z : jobRefusal j work ≡ 0) where
-  passes : (jobRight j ≡ true) × (givenRight (j .section2) ≡ true) × (longest (j .counts) * length (tablesGiven (j .section2)) ≤ work)
-  unfolding jobRefusal
+  passes : (jobRight j ≡ true) × (tablesGivenRight (j .section2) ≡ true) × (longest (j .counts) * length (tablesGiven (j .section2)) ≤ work)
+  unfolding jobRefusal workRight
   passes =
       let enough = leb (longest (j .counts) * length (tablesGiven (j .section2))) work in
       let a = passed (jobRight j) 16 _ z in
       let b = passed (section1Right 0 (j .section1) 0) 5 _ (a .1) in
-      let c = passed (givenRight (j .section2)) 6 _ (b .1) in
+      let c = passed (tablesGivenRight (j .section2)) 6 _ (b .1) in
       let d = passed enough 10 0 (c .1) in
       (a .0, c .0, leb-true (longest (j .counts) * length (tablesGiven (j .section2))) work (d .0))
 

@@ -10,16 +10,16 @@ use borrow.Author.Tests.{le-leb, lt-leb, leb-true, eq-eqb, ne-eqb, eqb-true, eqb
 use lib.Dec.{leb, eqb}
 use lib.IntN.{ℤ}
 use lib.ListN.{length, take, drop}
-use Rattle.wire.specs.Rules.{unless}
+use Rattle.wire.specs.Rules.{every, unless}
 use Rattle.packing.specs.Packing.{bytesFor, packed}
 use Rattle.packing.proofs.Laws.{length-packed}
-use Rattle.layout.specs.Layout.{sectionBytes, noLetters, leadsData, streamsData, recordBytes}
+use Rattle.layout.specs.Layout.{sectionBytes, zeroReserved, leadsData, streamsData, recordBytes}
 use Rattle.layout.proofs.Laws.{length-leadsData, length-recordBytes}
-use Rattle.encode.specs.Encoding.{workAfter}
+use Rattle.encode.specs.Encoding.{workSearched}
 use Rattle.compose.specs.declared.Written.{Written}
 use Rattle.compose.specs.declared.Head.{Head}
-use Rattle.compose.specs.Writing.{Job, jobOf, jobRefusal, cut, streamsOf, allShort, recordOf, foundRefusal, writtenAs, outAs}
-use Rattle.compose.specs.Writing.{Wrote, refused, searched}
+use Rattle.compose.specs.Writing.{Job, jobOf, jobRefusal, cut, packedAll, allShort, recordOf, recordRefusal, writtenAs, recordOut}
+use Rattle.compose.specs.Writing.{Wrote, refused, answered}
 use Rattle.compose.specs.InnerSizes.{numberWith, numberFor, SizedAs}
 use Rattle.compose.specs.InnerJob.{frontSize, sizeWith, refusalFor, answerOf, Streamed}
 use Rattle.compose.proofs.Laws.{job-listed}
@@ -31,8 +31,8 @@ use Rattle.compose.proofs.Parts.{length-data, size-parts}
 -- 15 where some lead has no stream, else 16 where some stream is too long
 abbrev Judged : List (Option (List ℕ)) → Type 0
 Judged founds =
-    ((streamsOf founds ≡ none) × (numberFor founds ≡ 15))
-    ⊎ ((streams : List (List ℕ)) × (streamsOf founds ≡ some streams) × (numberFor founds ≡ cond (allShort streams) 0 16))
+    ((packedAll founds ≡ none) × (numberFor founds ≡ 15))
+    ⊎ ((streams : List (List ℕ)) × (packedAll founds ≡ some streams) × (numberFor founds ≡ cond (allShort streams) 0 16))
 
 with-none : (bs : List ℕ) → numberWith (some bs) 15 ≡ 15
 with-none bs = go (leb (bytesFor (length bs)) 65535)
@@ -43,7 +43,7 @@ with-none bs = go (leb (bytesFor (length bs)) 65535)
 
 with-some : (bs : List ℕ) (streams : List (List ℕ)) → numberWith (some bs) (cond (allShort streams) 0 16) ≡ cond
     (allShort (packed bs ∷ streams)) 0 16
-unfolding allShort
+unfolding allShort every
 with-some bs streams = rw (length-packed bs) (go (leb (bytesFor (length bs)) 65535) (allShort streams))
   where
     go : (b s : Bool) → _≡_ {A = ℕ} (cond b (cond s 0 16) (cond (eqb (cond s 0 16) 15) 15 16)) (cond (b && s) 0 16)
@@ -52,7 +52,7 @@ with-some bs streams = rw (length-packed bs) (go (leb (bytesFor (length bs)) 655
     go false false = refl
 
 judged : (founds : List (Option (List ℕ))) → Judged founds
-unfolding streamsOf numberFor allShort
+unfolding packedAll numberFor allShort every
 judged [] = inr ([], refl, refl)
 judged (none ∷ founds) = inl (refl, refl)
 judged (some bs ∷ founds) = go (judged founds)
@@ -109,7 +109,7 @@ module _ (j : Job) (sizes : List ℕ) (number : ℕ) (firsts : length (j .firsts
   size = sizeWith (length (j .section1)) (length (j .section2)) sizes
 
   -- the record is so long, where the number is 0
-  length-record : (streams : List (List ℕ)) → number ≡ 0 → streamsOf (S .founds) ≡ some streams → length (recordOf j streams) ≡ size
+  length-record : (streams : List (List ℕ)) → number ≡ 0 → packedAll (S .founds) ≡ some streams → length (recordOf j streams) ≡ size
   unfolding recordOf
   length-record streams z e =
       let short = subst (λ (n : ℕ). SizedAs (j .section2) (j .order) (cut (j .counts) (j .samples)) n sizes) z S in
@@ -122,17 +122,17 @@ module _ (j : Job) (sizes : List ℕ) (number : ℕ) (firsts : length (j .firsts
         long,
       )
 
-  refusal-is : (room : ℕ) → refusalFor number size room ≡ foundRefusal j room (streamsOf (S .founds))
-  unfolding foundRefusal
+  refusal-is : (room : ℕ) → refusalFor number size room ≡ recordRefusal j room (packedAll (S .founds))
+  unfolding recordRefusal
   refusal-is room = go (judged (S .founds))
     where
-      short : (streams : List (List ℕ)) → streamsOf (S .founds) ≡ some streams → (s : Bool) → number ≡ cond s 0 16
+      short : (streams : List (List ℕ)) → packedAll (S .founds) ≡ some streams → (s : Bool) → number ≡ cond s 0 16
           → refusalFor number size room ≡ unless (s && leb (length (recordOf j streams)) 1048576) 16
           (unless (leb (length (recordOf j streams)) room) 11 0)
       short streams e true n = rw (eq-eqb number 0 n, length-record streams n e)
       short streams e false n = rw n
 
-      go : Judged (S .founds) → refusalFor number size room ≡ foundRefusal j room (streamsOf (S .founds))
+      go : Judged (S .founds) → refusalFor number size room ≡ recordRefusal j room (packedAll (S .founds))
       go (inl (e, n)) = let is : number ≡ 15 = S .says ∙ n in rw (e, is)
       go (inr (streams, e, n)) = rw e (short streams e (allShort streams) (S .says ∙ n))
 
@@ -154,22 +154,22 @@ module _ (s1 s2 : List ℕ) (head : Head) (firsts counts ids : List ℕ) (xs : L
   founds = F .sized .founds
 
   decided : refusalFor (F .number) (sizeWith (length s1) (length s2) (F .sizes)) (length out)
-      ≡ foundRefusal j (length out) (streamsOf founds)
+      ≡ recordRefusal j (length out) (packedAll founds)
   decided =
       let l = job-listed j (length work) asked in
       refusal-is j (F .sizes) (F .number) (l .0) (l .1) (F .each) (F .sized) (length out)
 
-  searched-as : (n : ℕ) → foundRefusal j (length out) (streamsOf founds) ≡ n
-      → Wrote j work out (writtenAs j n (streamsOf founds)) (workAfter s2 work) (outAs j n (streamsOf founds) out)
-  searched-as n is = rw (← is) (searched founds asked (F .sized .all))
+  searched-as : (n : ℕ) → recordRefusal j (length out) (packedAll founds) ≡ n
+      → Wrote j work out (writtenAs j n (packedAll founds)) (workSearched s2 work) (recordOut j n (packedAll founds) out)
+  searched-as n is = rw (← is) (answered founds asked (F .sized .all))
 
   -- a refusal
-  pub wrote-judged : (r .refusal ≡ 0 → ⊥) → (work′ : List ℕ) → work′ ≡ workAfter s2 work → Wrote j work out r work′ mid
+  pub wrote-judged : (r .refusal ≡ 0 → ⊥) → (work′ : List ℕ) → work′ ≡ workSearched s2 work → Wrote j work out r work′ mid
   wrote-judged h work′ cleared =
-      rw (cleared, F .same h) (go (foundRefusal j (length out) (streamsOf founds)) refl (rw decided at (F .answer)))
+      rw (cleared, F .same h) (go (recordRefusal j (length out) (packedAll founds)) refl (rw decided at (F .answer)))
     where
-      go : (n : ℕ) → foundRefusal j (length out) (streamsOf founds) ≡ n
-          → r ≡ answerOf n (sizeWith (length s1) (length s2) (F .sizes)) → Wrote j work out r (workAfter s2 work) out
+      go : (n : ℕ) → recordRefusal j (length out) (packedAll founds) ≡ n
+          → r ≡ answerOf n (sizeWith (length s1) (length s2) (F .sizes)) → Wrote j work out r (workSearched s2 work) out
       go zero is e = absurd (h (ap (λ (w : Written). w .refusal) e))
       go (suc n) is e = rw e (searched-as (suc n) is)
 
@@ -188,9 +188,9 @@ module _ (s1 s2 : List ℕ) (head : Head) (firsts counts ids : List ℕ) (xs : L
       (omega (arith, a .1, e), omega (arith, a .1, w .1), omega (arith, a .1, w .2))
 
   -- the record
-  pub wrote-put : r .refusal ≡ 0 → (work′ ys : List ℕ) → work′ ≡ workAfter s2 work
+  pub wrote-put : r .refusal ≡ 0 → (work′ ys : List ℕ) → work′ ≡ workSearched s2 work
       → ((data6 : List ℕ) → drop (frontSize (length s1) (length s2) (length counts)) (take (r .bytes) mid)
-      ≡ sectionBytes 6 (head .version) noLetters data6
+      ≡ sectionBytes 6 (head .version) zeroReserved data6
       → ys ≡ recordBytes (head .version) s1 s2 (leadsData (head .flags) firsts counts ids) data6)
       → Wrote j work out r work′ (ys ++ drop (r .bytes) mid)
   unfolding recordOf
@@ -199,7 +199,7 @@ module _ (s1 s2 : List ℕ) (head : Head) (firsts counts ids : List ℕ) (xs : L
       none-asked : F .number ≡ 0
       none-asked = nothing-refused (F .number) (sizeWith (length s1) (length s2) (F .sizes)) (length out) (asked-none z .0) .0
 
-      go : Judged founds → Wrote j work out r (workAfter s2 work) (ys ++ drop (r .bytes) mid)
+      go : Judged founds → Wrote j work out r (workSearched s2 work) (ys ++ drop (r .bytes) mid)
       go (inl (f, n)) = absurd (omega (arith, none-asked, F .sized .says ∙ n))
       go (inr (streams, f, n)) =
           let l = job-listed j (length work) asked in

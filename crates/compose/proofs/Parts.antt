@@ -12,9 +12,9 @@ use lib.ListN.{length, take, drop, replicate, length-append, length-drop, length
 use lib.Seq.{drop-drop, drop-length, drop-at, take-at, length-take-le}
 use Rattle.wire.specs.Numbers.{bytesOf}
 use Rattle.wire.proofs.Laws.{length-bytesOf}
-use Rattle.layout.specs.Layout.{evened, sizeFor, checked, sectionBytes, noLetters, letters, joined, streamsData}
-use Rattle.layout.specs.Layout.{pointersData, givenSize, givenSection, recordSize, recordBytes}
-use Rattle.layout.specs.Counts.{byteCounts}
+use Rattle.layout.specs.Layout.{evened, sectionLength, checked, sectionBytes, zeroReserved, letters, joined, streamsData}
+use Rattle.layout.specs.Layout.{pointersData, section2Size, section2Bytes, recordSize, recordBytes}
+use Rattle.layout.specs.InnerCounts.{byteCounts}
 use Rattle.layout.proofs.Laws.{Filled, filled-put, filled-behind, spare-put, length-sectionBytes}
 use Rattle.layout.proofs.Laws.{length-byteCounts, counts-are, length-streamsData}
 use Rattle.compose.specs.Writing.{total}
@@ -41,12 +41,12 @@ module _ (step interval order : ℕ) (sizes : List ℕ) (streams : List (List �
   pub length-data : length (streamsData step interval order streams) ≡ 6 + 2 * length sizes + total sizes
   length-data = length-streamsData step interval order streams ∙ rw (are, total-joined streams, length-map streams length)
 
-  pub section6-size : {n : ℕ} → n ≡ sizeFor (6 + 2 * length sizes + total sizes) → n ≡ sizeFor
+  pub section6-size : {n : ℕ} → n ≡ sectionLength (6 + 2 * length sizes + total sizes) → n ≡ sectionLength
       (length (streamsData step interval order streams))
-  section6-size h = h ∙ ap sizeFor (sym length-data)
+  section6-size h = h ∙ ap sectionLength (sym length-data)
 
   module _ (l x y z zs : List ℕ) (from end : ℕ) (start : from ≡ 22 + 2 * length sizes) (stop : end ≡ from + total sizes)
-      (size : length l ≡ sizeFor (6 + 2 * length sizes + total sizes))
+      (size : length l ≡ sectionLength (6 + 2 * length sizes + total sizes))
       (head : x ≡ take 16 l ++ (bytesOf 2 step ++
       (bytesOf 2 interval ++ (order ∷ (0 ∷ (byteCounts sizes ++ drop (22 + 2 * length sizes) l))))))
       (body : y ≡ putMid from (end - from) x zs) (put : zs ≡ joined streams) (long : length y ≡ length l)
@@ -74,26 +74,26 @@ no-list [] e = refl
 no-list (x ∷ l) e = absurd (omega arith)
 
 module _ (version : ℕ) (s2 : List ℕ) (h : length s2 ≡ 0) where
-  pub given-none : (part : List ℕ) → length part ≡ givenSize (length s2) → part ≡ givenSection version s2
-  unfolding givenSection
+  pub given-none : (part : List ℕ) → length part ≡ section2Size (length s2) → part ≡ section2Bytes version s2
+  unfolding section2Bytes
   given-none part e = rw (eq-eqb (length s2) 0 h) (no-list part (rw (eq-eqb (length s2) 0 h) at e))
 
 module _ (version : ℕ) (s2 : List ℕ) (h : length s2 ≡ 0 → ⊥) where
-  pub given-some : sectionBytes 2 version noLetters s2 ≡ givenSection version s2
-  unfolding givenSection
+  pub given-some : sectionBytes 2 version zeroReserved s2 ≡ section2Bytes version s2
+  unfolding section2Bytes
   given-some = rw (ne-eqb (length s2) 0 h)
 
 -- its length
-pub given-zero : (count : ℕ) → count ≡ 0 → 0 ≡ givenSize count
+pub given-zero : (count : ℕ) → count ≡ 0 → 0 ≡ section2Size count
 given-zero count h = rw (eq-eqb count 0 h)
 
-pub given-sized : (count : ℕ) → (count ≡ 0 → ⊥) → sizeFor count ≡ givenSize count
+pub given-sized : (count : ℕ) → (count ≡ 0 → ⊥) → sectionLength count ≡ section2Size count
 given-sized count h = rw (ne-eqb count 0 h)
 
-pub given-bounds : (count : ℕ) → (count ≤ givenSize count) × (givenSize count ≤ count + 17)
+pub given-bounds : (count : ℕ) → (count ≤ section2Size count) × (section2Size count ≤ count + 17)
 given-bounds count = go (eqb count 0) refl
   where
-    go : (b : Bool) → eqb count 0 ≡ b → (count ≤ cond b 0 (sizeFor count)) × (cond b 0 (sizeFor count) ≤ count + 17)
+    go : (b : Bool) → eqb count 0 ≡ b → (count ≤ cond b 0 (sectionLength count)) × (cond b 0 (sectionLength count) ≤ count + 17)
     go true e = let z = eqb-true count 0 e in (omega arith, omega arith)
     go false e = (omega arith, omega arith)
 
@@ -101,7 +101,7 @@ given-bounds count = go (eqb count 0) refl
 
 -- Section 6 ends where the record does
 pub size-parts : (count1 count2 leads : ℕ) (sizes : List ℕ) → length sizes ≡ leads
-    → sizeWith count1 count2 sizes ≡ frontSize count1 count2 leads + sizeFor (count6 sizes)
+    → sizeWith count1 count2 sizes ≡ frontSize count1 count2 leads + sectionLength (count6 sizes)
 size-parts count1 count2 leads sizes e = rw (← e) refl
 
 -- it is put there: behind it nothing is changed
@@ -140,25 +140,26 @@ in-a-row : (a b c d e : List ℕ) → (a ++ (b ++ (c ++ d))) ++ e ≡ a ++ (b ++
 in-a-row a b c d e = simp append-assoc
 
 -- before Section 6, which is there, stand the pointers and the others; then come the size and the check
-module _ (version : ℕ) (data1 data2 data3 data6 l x o p0 p : List ℕ) (size1 size2 size3 : ℕ) (e1 : size1 ≡ sizeFor (length data1))
-    (e2 : size2 ≡ givenSize (length data2)) (e3 : size3 ≡ sizeFor (length data3)) (within : 142 + size1 + size2 + size3 ≤ length l) where
+module _ (version : ℕ) (data1 data2 data3 data6 l x o p0 p : List ℕ) (size1 size2 size3 : ℕ) (e1 : size1 ≡ sectionLength (length data1))
+    (e2 : size2 ≡ section2Size (length data2)) (e3 : size3 ≡ sectionLength (length data3))
+    (within : 142 + size1 + size2 + size3 ≤ length l) where
   pub record-put : Filled l 6 (([] ++ p0) ++ p) (142 + size1 + size2 + size3) x
       → p0 ≡ sectionBytes 0 version letters (pointersData size1 size2 size3 (length l - (142 + size1 + size2 + size3)))
-      → p ≡ sectionBytes 1 version noLetters data1 ++ (givenSection version data2 ++ sectionBytes 3 version noLetters data3)
-      → drop (142 + size1 + size2 + size3) l ≡ sectionBytes 6 version noLetters data6
+      → p ≡ sectionBytes 1 version zeroReserved data1 ++ (section2Bytes version data2 ++ sectionBytes 3 version zeroReserved data3)
+      → drop (142 + size1 + size2 + size3) l ≡ sectionBytes 6 version zeroReserved data6
       → o ≡ checked (bytesOf 4 (length x) ++ drop 6 x) → o ≡ recordBytes version data1 data2 data3 data6
   unfolding recordBytes
   record-put f h0 h h6 sealed =
       let at6 = 142 + size1 + size2 + size3 in
-      let left : length l - at6 ≡ sizeFor (length data6) =
-      sym (length-drop at6 l) ∙ ap length h6 ∙ length-sectionBytes 6 version noLetters data6 refl in
+      let left : length l - at6 ≡ sectionLength (length data6) =
+      sym (length-drop at6 l) ∙ ap length h6 ∙ length-sectionBytes 6 version zeroReserved data6 refl in
       let long : length x ≡ recordSize (length data1) (length data2) (length data3) (length data6) =
       filled-length f within ∙ omega (arith, left, within, e1, e2, e3) in
       let zeroth = sectionBytes 0 version letters (pointersData size1 size2 size3 (length l - at6)) in
-      let first = sectionBytes 1 version noLetters data1 in
-      let second = givenSection version data2 in
-      let third = sectionBytes 3 version noLetters data3 in
-      let sixth = sectionBytes 6 version noLetters data6 in
+      let first = sectionBytes 1 version zeroReserved data1 in
+      let second = section2Bytes version data2 in
+      let third = sectionBytes 3 version zeroReserved data3 in
+      let sixth = sectionBytes 6 version zeroReserved data6 in
       let behind : drop 6 x ≡ zeroth ++ (first ++ (second ++ (third ++ sixth))) =
       filled-behind f ∙ rw (h0, h, h6) (in-a-row zeroth first second third sixth) in
       sealed ∙ rw (long, behind, left, e1, e2, e3)

@@ -21,7 +21,7 @@ use Rattle.layout.specs.Layout.{joined}
 use Rattle.encode.specs.Encoding.{tablesGiven}
 use Rattle.encode.specs.InnerEncode.{bitsFound, Sized}
 use Rattle.encode.proofs.Unique.{found-unique}
-use Rattle.compose.specs.Writing.{total, cut, FoundAll, done, lead, behind, streamsOf}
+use Rattle.compose.specs.Writing.{total, cut, FoundAll, done, lead, withStream, packedAll}
 use Rattle.compose.specs.InnerSizes.{sizeFound, numberWith, numberFor, SizedAs, StreamOf, StreamsFor}
 use Rattle.compose.proofs.Sizes.{total-back, room-back, cut-back, lent}
 
@@ -81,13 +81,13 @@ module _ (s2 : List ℕ) (order : ℕ) (xs : List ℤ) {size : ℕ} (w : StreamO
 -- ---- one lead more
 
 -- streams where the first lead has one
-streams-split : (bs : List ℕ) (founds : List (Option (List ℕ))) (streams : List (List ℕ)) → streamsOf (some bs ∷ founds) ≡ some streams
-    → (rest : List (List ℕ)) × (streamsOf founds ≡ some rest) × (streams ≡ packed bs ∷ rest)
-unfolding streamsOf
-streams-split bs founds streams = go (streamsOf founds) refl
+streams-split : (bs : List ℕ) (founds : List (Option (List ℕ))) (streams : List (List ℕ)) → packedAll (some bs ∷ founds) ≡ some streams
+    → (rest : List (List ℕ)) × (packedAll founds ≡ some rest) × (streams ≡ packed bs ∷ rest)
+unfolding packedAll
+streams-split bs founds streams = go (packedAll founds) refl
   where
-    go : (found : Option (List (List ℕ))) → streamsOf founds ≡ found → behind bs found ≡ some streams
-        → (rest : List (List ℕ)) × (streamsOf founds ≡ some rest) × (streams ≡ packed bs ∷ rest)
+    go : (found : Option (List (List ℕ))) → packedAll founds ≡ found → withStream bs found ≡ some streams
+        → (rest : List (List ℕ)) × (packedAll founds ≡ some rest) × (streams ≡ packed bs ∷ rest)
     go none e f = unlike cc
     go (some rest) e f = (rest, e, cc)
 
@@ -98,12 +98,12 @@ drop-put part zs p from h g =
     drop-at (take p part) (zs ++ drop (from - p) (drop p part)) p (length-take-le p part (omega arith))
     ∙ rw (drop-drop (from - p) p part, e)
 
-none-first : (founds : List (Option (List ℕ))) (streams : List (List ℕ)) → streamsOf (none ∷ founds) ≡ some streams → ⊥
-unfolding streamsOf
+none-first : (founds : List (Option (List ℕ))) (streams : List (List ℕ)) → packedAll (none ∷ founds) ≡ some streams → ⊥
+unfolding packedAll
 none-first founds streams e = unlike cc
 
-no-streams : (streams : List (List ℕ)) → streamsOf [] ≡ some streams → streams ≡ []
-unfolding streamsOf
+no-streams : (streams : List (List ℕ)) → packedAll [] ≡ some streams → streams ≡ []
+unfolding packedAll
 no-streams streams e = cc
 
 module _ (s2 : List ℕ) (order : ℕ) (counts : List ℕ) (xs : List ℤ) (sizes : List ℕ) (S : SizedAs s2 order (cut counts xs) 0 sizes)
@@ -136,7 +136,7 @@ module _ (s2 : List ℕ) (order : ℕ) (counts : List ℕ) (xs : List ℤ) (size
     where
       go : (founds : List (Option (List ℕ))) → FoundAll s2 order
           (take count (drop (at - count) xs) ∷ cut (drop k counts) (drop at xs)) founds
-          → streamsOf founds ≡ some streams → zs ++ drop from part ≡ joined streams
+          → packedAll founds ≡ some streams → zs ++ drop from part ≡ joined streams
       go (none ∷ founds) (lead F rest) e = absurd (none-first founds streams e)
       go (some bs ∷ founds) (lead F rest) e =
           let w = streams-split bs founds streams e in
@@ -146,10 +146,10 @@ module _ (s2 : List ℕ) (order : ℕ) (counts : List ℕ) (xs : List ℤ) (size
 -- no lead is left
 pub put-none : (s2 : List ℕ) (order : ℕ) (counts : List ℕ) (xs : List ℤ) (part : List ℕ) (streams : List (List ℕ))
     → StreamsFor s2 order (cut (drop (length counts) counts) (drop (length xs) xs)) streams → drop (length part) part ≡ joined streams
-unfolding cut joined streamsOf
+unfolding cut joined packedAll
 put-none s2 order counts xs part streams (founds, all, e) = drop-length part ∙ go founds (rw (drop-length counts) at all) e
   where
-    go : (founds : List (Option (List ℕ))) → FoundAll s2 order [] founds → streamsOf founds ≡ some streams → [] ≡ joined streams
+    go : (founds : List (Option (List ℕ))) → FoundAll s2 order [] founds → packedAll founds ≡ some streams → [] ≡ joined streams
     go [] done e = rw (no-streams streams e)
 
 -- all are put
@@ -167,7 +167,7 @@ founds-unique done done = refl
 founds-unique (lead {found = a} {founds = f} F all) (lead {found = b} {founds = g} G other) =
     ap₂ _∷_ (found-unique _ _ a b F G) (founds-unique all other)
 
-sizes-founds : (founds : List (Option (List ℕ))) (streams : List (List ℕ)) → numberFor founds ≡ 0 → streamsOf founds ≡ some streams
+sizes-founds : (founds : List (Option (List ℕ))) (streams : List (List ℕ)) → numberFor founds ≡ 0 → packedAll founds ≡ some streams
     → map sizeFound founds ≡ map length streams
 unfolding numberFor
 sizes-founds [] streams z e = let f : streams ≡ [] = no-streams streams e in rw f
@@ -184,7 +184,7 @@ pub sizes-streams : {s2 : List ℕ} {order : ℕ} {xss : List (List ℤ)} {sizes
     → StreamsFor s2 order xss streams → sizes ≡ map length streams
 sizes-streams {streams = streams} S (founds, all, e) =
     let same = founds-unique (S .all) all in
-    S .each ∙ sizes-founds (S .founds) streams (sym (S .says)) (ap streamsOf same ∙ e)
+    S .each ∙ sizes-founds (S .founds) streams (sym (S .says)) (ap packedAll same ∙ e)
 
 pub total-joined : (streams : List (List ℕ)) → total (map length streams) ≡ length (joined streams)
 unfolding total joined

@@ -6,7 +6,7 @@ use mathlib.Core.Option.{Option, none}
 use native.Mathlib.Omega.{arith}
 use lib.ListN.{length}
 use Rattle.compose.specs.declared.Written.{Written}
-use Rattle.compose.specs.Writing.{Job, streamsOf, foundRefusal, writtenAs, outAs, Wrote, refused, searched}
+use Rattle.compose.specs.Writing.{Job, packedAll, recordRefusal, writtenAs, recordOut, Wrote, refused, answered}
 use Rattle.compose.proofs.Streams.{founds-unique}
 
 pub wrote-unique : {j : Job} {work out : List ℕ} {a b : Written} {w v o p : List ℕ} → Wrote j work out a w o → Wrote j work out b v p
@@ -14,11 +14,11 @@ pub wrote-unique : {j : Job} {work out : List ℕ} {a b : Written} {w v o p : Li
 wrote-unique {j = j} (refused n e) (refused m f) =
     let q : n ≡ m = omega (arith, sym e ∙ f) in
     (ap (λ (k : ℕ). writtenAs j (suc k) none) q, refl, refl)
-wrote-unique (refused n e) (searched g f G) = absurd (omega (arith, sym e ∙ f))
-wrote-unique (searched f e F) (refused n g) = absurd (omega (arith, sym e ∙ g))
-wrote-unique {j = j} {out = out} (searched f e F) (searched g h G) =
-    let q = ap streamsOf (founds-unique F G) in (
-      ap (λ (x : Option (List (List ℕ))). writtenAs j (foundRefusal j (length out) x) x) q,
+wrote-unique (refused n e) (answered g f G) = absurd (omega (arith, sym e ∙ f))
+wrote-unique (answered f e F) (refused n g) = absurd (omega (arith, sym e ∙ g))
+wrote-unique {j = j} {out = out} (answered f e F) (answered g h G) =
+    let q = ap packedAll (founds-unique F G) in (
+      ap (λ (x : Option (List (List ℕ))). writtenAs j (recordRefusal j (length out) x) x) q,
       refl,
-      ap (λ (x : Option (List (List ℕ))). outAs j (foundRefusal j (length out) x) x out) q,
+      ap (λ (x : Option (List (List ℕ))). recordOut j (recordRefusal j (length out) x) x out) q,
     )

@@ -7,8 +7,8 @@ use lib.Dec.{leb, eqb}
 use lib.IntN.{ℤ}
 use lib.ListN.{length, getD, take, drop}
 use Rattle.wire.specs.Rules.{unless}
-use Rattle.layout.specs.Layout.{sizeFor, sectionBytes, noLetters, streamsData, givenSize, recordSize}
-use Rattle.encode.specs.Encoding.{tablesGiven, givenRight}
+use Rattle.layout.specs.Layout.{sectionLength, sectionBytes, zeroReserved, streamsData, section2Size, recordSize}
+use Rattle.encode.specs.Encoding.{tablesGiven, tablesGivenRight}
 use Rattle.compose.specs.declared.Written.{Written}
 use Rattle.compose.specs.declared.Head.{Head}
 use Rattle.compose.specs.Writing.{total, longest, cut}
@@ -17,7 +17,7 @@ use Rattle.compose.specs.InnerSizes.{SizedAs, StreamsFor}
 -- the streams can be looked for: Section 2 is right, the samples are those of the leads, and the work space has room for the longest
 abbrev pub Sound : List ℕ → List ℕ → List ℤ → ℕ → Type 0
 Sound s2 counts xs work =
-    (givenRight s2 ≡ true)
+    (tablesGivenRight s2 ≡ true)
     × (longest counts ≤ 65536)
     × (longest counts * length (tablesGiven s2) ≤ work)
     × (total counts ≡ length xs)
@@ -32,7 +32,7 @@ Listed firsts counts ids =
 
 -- where Section 6 begins, by the lengths of Section 1's and 2's data and the count of leads
 abbrev pub frontSize : ℕ → ℕ → ℕ → ℕ
-frontSize count1 count2 leads = 142 + sizeFor count1 + givenSize count2 + sizeFor (2 + 9 * leads)
+frontSize count1 count2 leads = 142 + sectionLength count1 + section2Size count2 + sectionLength (2 + 9 * leads)
 
 -- the length of Section 6's data, by the sizes of the streams
 abbrev pub count6 : List ℕ → ℕ
@@ -57,7 +57,7 @@ Put6 count1 s2 head counts xs out size out′ =
     (drop size out′ ≡ drop size out)
     × ((streams : List (List ℕ)) → StreamsFor s2 (head .order) (cut counts xs) streams
     → drop (frontSize count1 (length s2) (length counts)) (take size out′)
-    ≡ sectionBytes 6 (head .version) noLetters (streamsData (head .step) (head .interval) (head .order) streams))
+    ≡ sectionBytes 6 (head .version) zeroReserved (streamsData (head .step) (head .interval) (head .order) streams))
 
 -- the streams are sized, and they and the room decide: a refusal changes nothing, else Section 6 is put
 pub record Streamed (count1 : ℕ) (s2 : List ℕ) (head : Head) (counts : List ℕ) (xs : List ℤ) (out : List ℕ) (r : Written) (out′ : List ℕ)

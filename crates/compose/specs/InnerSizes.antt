@@ -12,7 +12,7 @@ use Rattle.samples.specs.Differences.{differences}
 use Rattle.shortest.specs.Shortest.{Shortest}
 use Rattle.encode.specs.Encoding.{tablesGiven}
 use Rattle.encode.specs.InnerEncode.{bitsFound}
-use Rattle.compose.specs.Writing.{FoundAll, streamsOf}
+use Rattle.compose.specs.Writing.{FoundAll, packedAll}
 
 -- the bytes of a stream, 65,536 for that many and more, and for no stream
 abbrev pub sizeFound : Option (List ℕ) → ℕ
@@ -41,4 +41,4 @@ StreamOf s2 order xs size =
 
 -- the packed streams of leads that have one each
 abbrev pub StreamsFor : List ℕ → ℕ → List (List ℤ) → List (List ℕ) → Type 0
-StreamsFor s2 order xss streams = (founds : List (Option (List ℕ))) × FoundAll s2 order xss founds × (streamsOf founds ≡ some streams)
+StreamsFor s2 order xss streams = (founds : List (Option (List ℕ))) × FoundAll s2 order xss founds × (packedAll founds ≡ some streams)

@@ -1,18 +1,18 @@
 -- Writing a record (01, Numbers that bound the work; 01, Refusal numbers 6, 7, 11 and 15 to 17 and the paragraphs under the table).
-use Prim.Native.Nat.{ℕ, zero, suc, _+_, _*_}
+use Prim.Native.Nat.{ℕ, zero, suc, _+_}
 use mathlib.Core.Path.{_≡_}
-use mathlib.Core.Bool.{Bool, true, not, _&&_, cond}
+use mathlib.Core.Bool.{Bool, not, _&&_, cond}
 use mathlib.Core.List.{List, [], _∷_, _++_}
 use mathlib.Core.Option.{Option, none, some}
 use lib.Dec.{leb, eqb}
 use lib.IntN.{ℤ}
 use lib.ListN.{length, getD, take, drop}
-use Rattle.wire.specs.Rules.{allIn, unless}
+use Rattle.wire.specs.Rules.{allIn, every, unless}
 use Rattle.header.specs.Header.{section1Right}
 use Rattle.samples.specs.Differences.{differences}
 use Rattle.packing.specs.Packing.{packed}
 use Rattle.layout.specs.Layout.{leadsData, streamsData, recordBytes}
-use Rattle.encode.specs.Encoding.{tablesGiven, givenRight, Found, workAfter}
+use Rattle.encode.specs.Encoding.{tablesGiven, tablesGivenRight, workRight, Found, workSearched}
 use Rattle.compose.specs.declared.Written.{Written}
 use Rattle.compose.specs.declared.Head.{Head}
 
@@ -84,8 +84,8 @@ unfoldable pub jobRefusal : Job → ℕ → ℕ
 jobRefusal j work =
     unless (jobRight j) 17
     (unless (section1Right 0 (j .section1) 0) 6
-    (unless (givenRight (j .section2)) 7
-    (unless (leb (longest (j .counts) * length (tablesGiven (j .section2))) work) 11 0)))
+    (unless (tablesGivenRight (j .section2)) 7
+    (unless (workRight (j .section2) (longest (j .counts)) work) 11 0)))
 
 -- ---- what is found
 
@@ -101,20 +101,19 @@ pub data FoundAll (s2 : List ℕ) (order : ℕ) : List (List ℤ) → List (Opti
       Found (tablesGiven s2) (differences order xs) found → FoundAll s2 order xss founds → FoundAll s2 order (xs ∷ xss) (found ∷ founds)
 
 -- a lead's stream, packed into bytes, before the packed streams of the leads after it; none where one of these has none
-abbrev pub behind : List ℕ → Option (List (List ℕ)) → Option (List (List ℕ))
-behind bs none = none
-behind bs (some streams) = some (packed bs ∷ streams)
+abbrev pub withStream : List ℕ → Option (List (List ℕ)) → Option (List (List ℕ))
+withStream bs none = none
+withStream bs (some streams) = some (packed bs ∷ streams)
 
 -- the streams of all leads, packed into bytes; none where some lead has none
-unfoldable pub streamsOf : List (Option (List ℕ)) → Option (List (List ℕ))
-streamsOf [] = some []
-streamsOf (none ∷ founds) = none
-streamsOf (some bs ∷ founds) = behind bs (streamsOf founds)
+unfoldable pub packedAll : List (Option (List ℕ)) → Option (List (List ℕ))
+packedAll [] = some []
+packedAll (none ∷ founds) = none
+packedAll (some bs ∷ founds) = withStream bs (packedAll founds)
 
 -- every stream has at most 65,535 bytes
 unfoldable pub allShort : List (List ℕ) → Bool
-allShort [] = true
-allShort (stream ∷ streams) = leb (length stream) 65535 && allShort streams
+allShort streams = every (λ stream. leb (length stream) 65535) streams
 
 -- ---- the record
 
@@ -126,9 +125,9 @@ recordOf j streams =
 
 -- 15 where some lead has no stream; 16 where a stream has over 65,535 bytes, or the record over 1,048,576; 11 where
 -- the output has no room for the record
-unfoldable pub foundRefusal : Job → ℕ → Option (List (List ℕ)) → ℕ
-foundRefusal j room none = 15
-foundRefusal j room (some streams) =
+unfoldable pub recordRefusal : Job → ℕ → Option (List (List ℕ)) → ℕ
+recordRefusal j room none = 15
+recordRefusal j room (some streams) =
     unless (allShort streams && leb (length (recordOf j streams)) 1048576) 16
     (unless (leb (length (recordOf j streams)) room) 11 0)
 
@@ -141,15 +140,15 @@ writtenAs j (suc n) streams = record { refusal = suc n; bytes = 0 }
 
 -- the output: it begins with the record, and is as it was behind it; a refusal changes nothing. The case `zero none` is never
 -- met: without a stream the number is 15
-abbrev pub outAs : Job → ℕ → Option (List (List ℕ)) → List ℕ → List ℕ
-outAs j zero (some streams) out = recordOf j streams ++ drop (length (recordOf j streams)) out
-outAs j zero none out = out
-outAs j (suc n) streams out = out
+abbrev pub recordOut : Job → ℕ → Option (List (List ℕ)) → List ℕ → List ℕ
+recordOut j zero (some streams) out = recordOf j streams ++ drop (length (recordOf j streams)) out
+recordOut j zero none out = out
+recordOut j (suc n) streams out = out
 
 -- what writing a job answers, and the work space and the output afterwards: refused before streams are looked for, or by what is found
 pub data Wrote (j : Job) (work out : List ℕ) : Written → List ℕ → List ℕ → Type 0 where
   refused : (n : ℕ) → jobRefusal j (length work) ≡ suc n → Wrote j work out (writtenAs j (suc n) none) work out
-  searched : (founds : List (Option (List ℕ))) → jobRefusal j (length work) ≡ 0 →
+  answered : (founds : List (Option (List ℕ))) → jobRefusal j (length work) ≡ 0 →
       FoundAll (j .section2) (j .order) (cut (j .counts) (j .samples)) founds →
-      Wrote j work out (writtenAs j (foundRefusal j (length out) (streamsOf founds)) (streamsOf founds)) (workAfter (j .section2) work)
-      (outAs j (foundRefusal j (length out) (streamsOf founds)) (streamsOf founds) out)
+      Wrote j work out (writtenAs j (recordRefusal j (length out) (packedAll founds)) (packedAll founds)) (workSearched (j .section2) work)
+      (recordOut j (recordRefusal j (length out) (packedAll founds)) (packedAll founds) out)

@@ -11,9 +11,9 @@ ghost use Rattle.samples.specs.Differences.{differences};
 ghost use Rattle.compiled.specs.InnerForm.{Holding};
 ghost use Rattle.packing.specs.Packing.{packed};
 ghost use Rattle.shortest.specs.Shortest.{Shortest};
-ghost use Rattle.layout.specs.Layout.{sizeFor, sectionBytes, noLetters, leadsData, joined, streamsData};
-ghost use Rattle.layout.specs.Layout.{givenSize, givenSection, recordBytes};
-ghost use Rattle.encode.specs.Encoding.{tablesGiven, givenRight, workAfter};
+ghost use Rattle.layout.specs.Layout.{sectionLength, sectionBytes, zeroReserved, leadsData, joined, streamsData};
+ghost use Rattle.layout.specs.Layout.{section2Size, section2Bytes, recordBytes};
+ghost use Rattle.encode.specs.Encoding.{tablesGiven, tablesGivenRight, workSearched};
 ghost use Rattle.encode.specs.InnerEncode.{bitsFound};
 ghost use Rattle.compose.specs.Writing.{jobOf, total, longest, leadAsked, jobRight, jobRefusal, cut, Wrote};
 ghost use Rattle.compose.specs.InnerSizes.{numberWith, SizedAs, StreamOf, StreamsFor};
@@ -216,7 +216,7 @@ fn put_lead(
     work: &mut [u8],
     part: &mut [u8],
 )
-    requires { ⌜ (givenRight (now section2) ≡ true) × Holding (tablesGiven (now section2)) (now tab) ⌝ }
+    requires { ⌜ (tablesGivenRight (now section2) ≡ true) × Holding (tablesGiven (now section2)) (now tab) ⌝ }
     requires { ⌜ (length (now xs) ≤ 65536) × (length (now xs) * length (tablesGiven (now section2)) ≤ length (now work))
         × StreamOf (now section2) order (now xs) (length (now part)) ⌝ }
     ensures { λ _. ⌜ ((bs : List ℕ) → Shortest (tablesGiven (now (section2 .entry))) (differences order (now (xs .entry))) bs
@@ -281,10 +281,10 @@ fn write_streams(
     requires { ⌜ Sound (now section2) (now counts) (now xs) (length (now work)) × Holding (tablesGiven (now section2)) (now tab) ⌝ }
     requires { ⌜ (length (now counts) ≤ 32) × (head .order ≤ 2) × (length (now sizes) ≡ length (now counts))
         × SizedAs (now section2) (head .order) (cut (now counts) (now xs)) 0 (now sizes)
-        × (length (now part) ≡ sizeFor (count6 (now sizes))) ⌝ }
+        × (length (now part) ≡ sectionLength (count6 (now sizes))) ⌝ }
     ensures { λ _. ⌜ ((streams : List (List ℕ))
         → StreamsFor (now (section2 .entry)) (head .order) (cut (now (counts .entry)) (now (xs .entry))) streams
-        → now (part .exit) ≡ sectionBytes 6 (head .version) noLetters (streamsData (head .step) (head .interval) (head .order) streams))
+        → now (part .exit) ≡ sectionBytes 6 (head .version) zeroReserved (streamsData (head .step) (head .interval) (head .order) streams))
         × (length (now (tab .entry)) ≡ 0 → now (work .exit) ≡ now (work .entry)) ⌝ }
 {
     let from = 22 + 2 * sizes.len();
@@ -307,7 +307,7 @@ fn write_streams(
 // A section's length, with its header and spare byte.
 fn size_for(count: usize) -> usize
     requires { ⌜ count ≤ 1099511627776 ⌝ }
-    ensures { λ r. ⌜ r ≡ sizeFor count ⌝ }
+    ensures { λ r. ⌜ r ≡ sectionLength count ⌝ }
 {
     16 + count + count % 2
 }
@@ -315,7 +315,7 @@ fn size_for(count: usize) -> usize
 // Section 2's length, 0 where it is not given.
 fn given_size(count: usize) -> usize
     requires { ⌜ count ≤ 1099511627776 ⌝ }
-    ensures { λ r. ⌜ r ≡ givenSize count ⌝ }
+    ensures { λ r. ⌜ r ≡ section2Size count ⌝ }
 {
     if count == 0 {
         return 0;
@@ -422,7 +422,7 @@ fn write_by(
     requires { ⌜ Sound (now section2) (now counts) (now xs) (length (now work)) × (length (now counts) ≤ 32) × (head .order ≤ 2) ⌝ }
     ensures { λ r. ⌜ Streamed count1 (now (section2 .entry)) head (now (counts .entry)) (now (xs .entry)) (now (out .entry)) r
         (now (out .exit))
-        × (now (work .exit) ≡ workAfter (now (section2 .entry)) (now (work .entry))) ⌝ }
+        × (now (work .exit) ≡ workSearched (now (section2 .entry)) (now (work .entry))) ⌝ }
 {
     let mut tab = encode::table_room();
     let held = encode::hold_tables(section2, &mut tab);
@@ -436,8 +436,8 @@ fn write_by(
 
 // Section 2, where it is given.
 fn write_given(part: &mut [u8], version: u8, section2: &[u8])
-    requires { ⌜ length (now part) ≡ givenSize (length (now section2)) ⌝ }
-    ensures { λ _. ⌜ now (part .exit) ≡ givenSection version (now (section2 .entry)) ⌝ }
+    requires { ⌜ length (now part) ≡ section2Size (length (now section2)) ⌝ }
+    ensures { λ _. ⌜ now (part .exit) ≡ section2Bytes version (now (section2 .entry)) ⌝ }
 {
     if section2.len() == 0 {
         return;
@@ -458,8 +458,8 @@ fn write_sections(
     requires { ⌜ Listed (now firsts) (now counts) (now ids) × (length (now part) ≤ 1048576)
         × (142 + length (now part) ≡ frontSize (length (now section1)) (length (now section2)) (length (now counts))) ⌝ }
     ensures { λ _. ⌜ now (part .exit)
-        ≡ sectionBytes 1 (head .version) noLetters (now (section1 .entry)) ++ (givenSection (head .version) (now (section2 .entry))
-        ++ sectionBytes 3 (head .version) noLetters
+        ≡ sectionBytes 1 (head .version) zeroReserved (now (section1 .entry)) ++ (section2Bytes (head .version) (now (section2 .entry))
+        ++ sectionBytes 3 (head .version) zeroReserved
         (leadsData (head .flags) (now (firsts .entry)) (now (counts .entry)) (now (ids .entry)))) ⌝ }
 {
     let at2 = size_for(section1.len());
@@ -490,7 +490,7 @@ fn write_front(
         × (frontSize (length (now section1)) (length (now section2)) (length (now counts)) ≤ length (now out)) ⌝ }
     ensures { λ _. ⌜ ((data6 : List ℕ)
         → drop (frontSize (length (now (section1 .entry))) (length (now (section2 .entry))) (length (now (counts .entry))))
-        (now (out .entry)) ≡ sectionBytes 6 (head .version) noLetters data6
+        (now (out .entry)) ≡ sectionBytes 6 (head .version) zeroReserved data6
         → now (out .exit) ≡ recordBytes (head .version) (now (section1 .entry)) (now (section2 .entry))
         (leadsData (head .flags) (now (firsts .entry)) (now (counts .entry)) (now (ids .entry))) data6) ⌝ }
 {

@@ -77,7 +77,7 @@ fn show_rows(rec: &[u8]) {
     put(b"  broken rows:");
     let mut row: u8 = 1;
     while row < 10 {
-        if !rules::keeps(rec, row) {
+        if !rules::row_kept(rec, row) {
             put(b" ");
             put_number(row as usize);
         }

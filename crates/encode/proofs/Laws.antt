@@ -35,7 +35,7 @@ use Rattle.shortest.proofs.Forms.{twos-lower}
 use Rattle.shortest.proofs.Plain.{plain-shortest, plain-none, plain-more, length-plainBytes}
 use Rattle.search.specs.InnerSearch.{cap, Planned}
 use Rattle.encode.specs.declared.Coded.{Coded}
-use Rattle.encode.specs.Encoding.{tablesGiven, askedRight, givenRight, workRight, askedRefusal, Found, foundRefusal, codedAs, workAfter, Encoded, refused, searched}
+use Rattle.encode.specs.Encoding.{tablesGiven, askedRight, tablesGivenRight, workRight, askedRefusal, Found, foundRefusal, codedAs, workSearched, Encoded, refused, answered}
 use Rattle.encode.specs.InnerEncode.{bitsFound, Sized, Laid, Written, clearedIf, heldFor}
 
 -- ---- without Section 2
@@ -233,8 +233,8 @@ written-put tables vs out out′ bits n r s refusal z answer put =
 
 -- no Section 2
 module _ (s2 : List ℕ) (h : length s2 ≡ 0) where
-  pub given-none : givenRight s2 ≡ true
-  unfolding givenRight
+  pub given-none : tablesGivenRight s2 ≡ true
+  unfolding tablesGivenRight
   given-none = rw (eq-eqb (length s2) 0 h)
 
   pub tables-none : tablesGiven s2 ≡ []
@@ -242,8 +242,8 @@ module _ (s2 : List ℕ) (h : length s2 ≡ 0) where
   tables-none = rw (eq-eqb (length s2) 0 h)
 
 module _ (s2 : List ℕ) (h : length s2 ≡ 0 → ⊥) where
-  pub given-some : givenRight s2 ≡ section2Right 0 s2 0
-  unfolding givenRight
+  pub given-some : tablesGivenRight s2 ≡ section2Right 0 s2 0
+  unfolding tablesGivenRight
   given-some = rw (ne-eqb (length s2) 0 h)
 
   tables-some : tablesGiven s2 ≡ tablesIn s2 0
@@ -267,7 +267,7 @@ module _ (s2 : List ℕ) (h : length s2 ≡ 0 → ⊥) where
   unfolding tablesIn
   count-default d = rw (tables-some, d)
 
-  pub count-own : isDefault s2 0 ≡ false → givenRight s2 ≡ true → (tableCount s2 0 ≡ length (tablesGiven s2)) × (tableCount s2 0 ≤ 8)
+  pub count-own : isDefault s2 0 ≡ false → tablesGivenRight s2 ≡ true → (tableCount s2 0 ≡ length (tablesGiven s2)) × (tableCount s2 0 ≤ 8)
   unfolding tablesIn
   count-own d right =
       let r = section2-right 0 s2 0 (sym given-some ∙ right) in
@@ -296,28 +296,28 @@ module _ (s2 : List ℕ) (count order work : ℕ) where
   unfolding askedRefusal
   refused-asked e = rw e
 
-  pub refused-given : askedRight count order ≡ true → givenRight s2 ≡ false → 7 ≡ askedRefusal s2 count order work
+  pub refused-given : askedRight count order ≡ true → tablesGivenRight s2 ≡ false → 7 ≡ askedRefusal s2 count order work
   unfolding askedRefusal
   refused-given e g = rw (e, g)
 
-  pub refused-work : askedRight count order ≡ true → givenRight s2 ≡ true → work < count * length (tablesGiven s2)
+  pub refused-work : askedRight count order ≡ true → tablesGivenRight s2 ≡ true → work < count * length (tablesGiven s2)
       → 11 ≡ askedRefusal s2 count order work
   unfolding askedRefusal workRight
   refused-work e g l = rw (e, g, lt-leb (count * length (tablesGiven s2)) work l)
 
-  pub refused-none : askedRight count order ≡ true → givenRight s2 ≡ true → count * length (tablesGiven s2) ≤ work
+  pub refused-none : askedRight count order ≡ true → tablesGivenRight s2 ≡ true → count * length (tablesGiven s2) ≤ work
       → 0 ≡ askedRefusal s2 count order work
   unfolding askedRefusal workRight
   refused-none e g l = rw (e, g, le-leb (count * length (tablesGiven s2)) work l)
 
 -- nothing is refused before the search
 pub asked-none : (s2 : List ℕ) (count order work : ℕ) → askedRefusal s2 count order work ≡ 0
-    → (count ≤ 65536) × (givenRight s2 ≡ true) × (count * length (tablesGiven s2) ≤ work)
+    → (count ≤ 65536) × (tablesGivenRight s2 ≡ true) × (count * length (tablesGiven s2) ≤ work)
 unfolding askedRefusal workRight
 asked-none s2 count order work z =
     let enough = leb (count * length (tablesGiven s2)) work in
     let p = passed (askedRight count order) 16 _ z in
-    let q = passed (givenRight s2) 6 _ (p .1) in
+    let q = passed (tablesGivenRight s2) 6 _ (p .1) in
     let w = passed enough 10 0 (q .1) in
     (asked-most count order (p .0), q .0, leb-true (count * length (tablesGiven s2)) work (w .0))
 
@@ -328,8 +328,8 @@ pub cleared-some : (work : List ℕ) (n : ℕ) → (n ≡ 0 → ⊥) → replica
 cleared-some work zero h = absurd (h refl)
 cleared-some work (suc n) h = refl
 
-pub cleared-after : (s2 work : List ℕ) (held : ℕ) → held ≡ heldFor (length s2) → clearedIf held work ≡ workAfter s2 work
-unfolding workAfter
+pub cleared-after : (s2 work : List ℕ) (held : ℕ) → held ≡ heldFor (length s2) → clearedIf held work ≡ workSearched s2 work
+unfolding workSearched
 cleared-after s2 work held e = rw e (go (length s2))
   where
     go : (n : ℕ) → clearedIf (heldFor n) work ≡ cond (eqb n 0) work (replicate (length work) 0)
@@ -342,7 +342,7 @@ module _ (s2 : List ℕ) (xs : List ℤ) (order : ℕ) (work out : List ℕ) whe
   encoded-refused zero r e h answer = absurd (h refl)
   encoded-refused (suc m) r e h answer = rw (answer m none refl) (refused m (sym e))
 
-  pub encoded-searched : (r : Coded) (work′ out′ : List ℕ) (held : ℕ) → askedRefusal s2 (length xs) order (length work) ≡ 0
+  pub encoded-answered : (r : Coded) (work′ out′ : List ℕ) (held : ℕ) → askedRefusal s2 (length xs) order (length work) ≡ 0
       → Written (tablesGiven s2) (differences order xs) out r out′ → held ≡ heldFor (length s2) → work′ ≡ clearedIf held work
       → Encoded s2 xs order work out r work′ out′
-  encoded-searched r work′ out′ held e w h cleared = rw (cleared, cleared-after s2 work held h, w .2, w .3) (searched (w .0) e (w .1))
+  encoded-answered r work′ out′ held e w h cleared = rw (cleared, cleared-after s2 work held h, w .2, w .3) (answered (w .0) e (w .1))

@@ -10,10 +10,10 @@ use native.Mathlib.Omega.{arith}
 use lib.IntN.{ℤ, pos}
 use lib.ListN.{length, getD, take, drop, length-append, drop-of-length-le}
 use lib.Seq.{drop-cons}
-use Rattle.bits.specs.Bits.{highBits, bitsIn}
+use Rattle.bits.specs.Bits.{highFirst, bitsIn}
 use Rattle.bits.specs.InnerRaised.{lower}
 use Rattle.bits.specs.InnerWindow.{turned}
-use Rattle.bits.proofs.Laws.{length-lowBits, length-highBits, small-lowBits}
+use Rattle.bits.proofs.Laws.{length-lowFirst, length-highFirst, small-lowFirst, own-bits}
 use Rattle.tables.specs.declared.Structure.{Structure}
 use Rattle.tables.specs.Structures.{structureRight, prefixOf, remainderOf}
 use Rattle.compiled.specs.declared.Form.{Form}
@@ -29,7 +29,7 @@ use Rattle.paths.specs.InnerPaths.{Kind, dead, gives, leads, There, Best, Alive
 use Rattle.paths.proofs.Optimal.{best-unique, nothing-left}
 use Rattle.shortest.specs.Shortest.{Shortest}
 use Rattle.shortest.specs.InnerRule.{twos, kindOf, wordOf, structureOf, rule}
-use Rattle.shortest.proofs.Laws.{own-bits, kind-switch, leads-switch}
+use Rattle.shortest.proofs.Laws.{kind-switch, leads-switch}
 use Rattle.shortest.proofs.Forms.{form-leads}
 use Rattle.shortest.proofs.Bridge.{sound, shortest-of, unique}
 use Rattle.search.specs.InnerSearch.{FilledBy, cap, Trail, Planned, countOf, formIn}
@@ -39,23 +39,23 @@ use Rattle.encode.specs.InnerEncode.{codeOf}
 -- ---- a code put behind what was written
 
 length-code : (f : Form) (v : ℤ) → length (codeOf f v) ≡ f .prefix + f .remainder
-length-code f v = simp (length-append, length-highBits)
+length-code f v = simp (length-append, length-highFirst)
 
 -- it is the structure's word
 form-code : (c : Structure) (v : ℤ) (f : Form) → formOf c ≡ f → wordOf c v ≡ codeOf f v
 unfolding formOf wordOf turned
 form-code c v f form =
-    let own = own-bits (prefixOf c) (c .prefix) (small-lowBits (c .prefix) (c .code)) (length-lowBits (c .prefix) (c .code)) in
-    rw (← form) (ap (λ (p : List ℕ). p ++ highBits (remainderOf c) (twos (remainderOf c) v)) (sym own))
+    let own = own-bits (prefixOf c) (c .prefix) (small-lowFirst (c .prefix) (c .code)) (length-lowFirst (c .prefix) (c .code)) in
+    rw (← form) (ap (λ (p : List ℕ). p ++ highFirst (remainderOf c) (twos (remainderOf c) v)) (sym own))
 
 -- without a remainder it is the prefix
-pub code-prefix : (f : Form) (v : ℤ) → f .remainder ≡ 0 → codeOf f v ≡ highBits (f .prefix) (f .word)
-unfolding highBits
-code-prefix f v e = rw e (append-nil (highBits (f .prefix) (f .word)))
+pub code-prefix : (f : Form) (v : ℤ) → f .remainder ≡ 0 → codeOf f v ≡ highFirst (f .prefix) (f .word)
+unfolding highFirst
+code-prefix f v e = rw e (append-nil (highFirst (f .prefix) (f .word)))
 
 -- a sink holds some bits
 pub holds-some : (out : List ℕ) (s : Sink) → s .part < 8 → s .acc < 2 ^ s .part → s .at ≤ length out
-    → Holds out s (bitsIn (take (s .at) out) ++ highBits (s .part) (s .acc))
+    → Holds out s (bitsIn (take (s .at) out) ++ highFirst (s .part) (s .acc))
 holds-some out s part acc at = record { bits = refl; part = part; acc = acc; at = at }
 
 -- what stands behind a sink's place stays as it was, though more is put

@@ -10,7 +10,7 @@ use Rattle.tables.specs.declared.Structure.{Structure}
 use Rattle.shortest.proofs.Bridge.{unique}
 use Rattle.shortest.proofs.Existence.{shortest-some}
 use Rattle.encode.specs.declared.Coded.{Coded}
-use Rattle.encode.specs.Encoding.{Found, foundRefusal, codedAs, outAs, Encoded, refused, searched}
+use Rattle.encode.specs.Encoding.{Found, foundRefusal, codedAs, outAs, Encoded, refused, answered}
 
 -- one thing at most is found
 pub found-unique : (tables : List (List Structure)) (vs : List ℤ) (f g : Option (List ℕ)) → Found tables vs f → Found tables vs g → f ≡ g
@@ -24,9 +24,9 @@ pub encoded-unique : {s2 : List ℕ} {xs : List ℤ} {order : ℕ} {work out : L
 encoded-unique (refused n e) (refused m f) =
     let q : n ≡ m = omega (arith, sym e ∙ f) in
     (ap (λ (k : ℕ). codedAs (suc k) none) q, refl, refl)
-encoded-unique (refused n e) (searched g f G) = absurd (omega (arith, sym e ∙ f))
-encoded-unique (searched f e F) (refused n g) = absurd (omega (arith, sym e ∙ g))
-encoded-unique {out = out} (searched f e F) (searched g h G) =
+encoded-unique (refused n e) (answered g f G) = absurd (omega (arith, sym e ∙ f))
+encoded-unique (answered f e F) (refused n g) = absurd (omega (arith, sym e ∙ g))
+encoded-unique {out = out} (answered f e F) (answered g h G) =
     let q = found-unique _ _ f g F G in (
       ap (λ (x : Option (List ℕ)). codedAs (foundRefusal (length out) x) x) q,
       refl,

@@ -25,8 +25,8 @@ unfoldable pub askedRight : ℕ → ℕ → Bool
 askedRight count order = leb 1 count && (leb count 65536 && leb order 2)
 
 -- 7: the data are empty, or keep Section 2's rule with no spare byte
-unfoldable pub givenRight : List ℕ → Bool
-givenRight s2 = eqb (length s2) 0 || section2Right 0 s2 0
+unfoldable pub tablesGivenRight : List ℕ → Bool
+tablesGivenRight s2 = eqb (length s2) 0 || section2Right 0 s2 0
 
 -- 11: the work space has a byte for each sample times each table; without Section 2 none is needed
 unfoldable pub workRight : List ℕ → ℕ → ℕ → Bool
@@ -35,7 +35,7 @@ workRight s2 count work = leb (count * length (tablesGiven s2)) work
 -- the first of 17, 7 and 11 for work space that applies, in that order, and 0 where none does: then a stream is looked for
 unfoldable pub askedRefusal : List ℕ → ℕ → ℕ → ℕ → ℕ
 askedRefusal s2 count order work =
-    unless (askedRight count order) 17 (unless (givenRight s2) 7 (unless (workRight s2 count work) 11 0))
+    unless (askedRight count order) 17 (unless (tablesGivenRight s2) 7 (unless (workRight s2 count work) 11 0))
 
 -- what is found for a lead's values: the shortest stream, or none, if no stream reads to them
 abbrev pub Found : List (List Structure) → List ℤ → Option (List ℕ) → Type 0
@@ -63,13 +63,13 @@ outAs zero none out = out
 outAs (suc n) found out = out
 
 -- the work space where nothing was refused before the search: all of it zeros; as it was without Section 2, since there is no search then
-unfoldable pub workAfter : List ℕ → List ℕ → List ℕ
-workAfter s2 work = cond (eqb (length s2) 0) work (replicate (length work) 0)
+unfoldable pub workSearched : List ℕ → List ℕ → List ℕ
+workSearched s2 work = cond (eqb (length s2) 0) work (replicate (length work) 0)
 
 -- what encoding samples answers, and the work space and the output afterwards: refused before a stream is looked for, or by what is found
 pub data Encoded (s2 : List ℕ) (xs : List ℤ) (order : ℕ) (work out : List ℕ) : Coded → List ℕ → List ℕ → Type 0 where
   refused : (n : ℕ) → askedRefusal s2 (length xs) order (length work) ≡ suc n → Encoded s2 xs order work out (codedAs (suc n) none) work out
-  searched : (found : Option (List ℕ)) → askedRefusal s2 (length xs) order (length work) ≡ 0 →
+  answered : (found : Option (List ℕ)) → askedRefusal s2 (length xs) order (length work) ≡ 0 →
       Found (tablesGiven s2) (differences order xs) found →
-      Encoded s2 xs order work out (codedAs (foundRefusal (length out) found) found) (workAfter s2 work)
+      Encoded s2 xs order work out (codedAs (foundRefusal (length out) found) found) (workSearched s2 work)
       (outAs (foundRefusal (length out) found) found out)

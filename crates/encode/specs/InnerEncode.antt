@@ -6,7 +6,7 @@ use mathlib.Core.Logic.{_⊎_}
 use mathlib.Core.Option.{Option, none, some}
 use lib.IntN.{ℤ}
 use lib.ListN.{length, replicate}
-use Rattle.bits.specs.Bits.{highBits}
+use Rattle.bits.specs.Bits.{highFirst}
 use Rattle.tables.specs.declared.Structure.{Structure}
 use Rattle.compiled.specs.declared.Form.{Form}
 use Rattle.compiled.specs.InnerForm.{Holding}
@@ -17,7 +17,7 @@ use Rattle.encode.specs.Encoding.{Found, foundRefusal, codedAs, outAs}
 
 -- the code word of a structure's form for a value
 abbrev pub codeOf : Form → ℤ → List ℕ
-codeOf f v = highBits (f .prefix) (f .word) ++ highBits (f .remainder) (twos (f .remainder) v)
+codeOf f v = highFirst (f .prefix) (f .word) ++ highFirst (f .remainder) (twos (f .remainder) v)
 
 -- the numbers hold some n tables, or none where n is 0
 abbrev pub HeldBy : List ℕ → ℕ → Type 0

@@ -14,7 +14,7 @@ ghost use Rattle.compiled.specs.InnerForm.{Ready, Holding};
 ghost use Rattle.shortest.specs.Shortest.{Shortest};
 ghost use Rattle.shortest.specs.InnerRule.{plainBytes};
 ghost use Rattle.search.specs.InnerSearch.{FilledBy, Planned};
-ghost use Rattle.encode.specs.Encoding.{tablesGiven, askedRight, givenRight, askedRefusal, foundRefusal, codedAs, Encoded};
+ghost use Rattle.encode.specs.Encoding.{tablesGiven, askedRight, tablesGivenRight, askedRefusal, foundRefusal, codedAs, Encoded};
 ghost use Rattle.encode.specs.InnerEncode.{codeOf, HeldBy, bitsFound, Sized, Laid, Written, clearedIf, heldFor};
 use compiled::Form;
 use packing::Sink;
@@ -267,7 +267,7 @@ fn asked_right(count: usize, order: usize) -> bool
 
 // 7: there is no Section 2, or its data are right.
 pub fn given_right(section2: &[u8]) -> bool
-    ensures { λ r. ⌜ r ≡ givenRight (now (section2 .entry)) ⌝ }
+    ensures { λ r. ⌜ r ≡ tablesGivenRight (now (section2 .entry)) ⌝ }
 {
     if section2.len() == 0 {
         return true;
@@ -277,7 +277,7 @@ pub fn given_right(section2: &[u8]) -> bool
 
 // How many tables Section 2's data mean.
 pub fn table_count(section2: &[u8]) -> usize
-    requires { ⌜ givenRight (now section2) ≡ true ⌝ }
+    requires { ⌜ tablesGivenRight (now section2) ≡ true ⌝ }
     ensures { λ r. ⌜ (r ≡ length (tablesGiven (now (section2 .entry)))) × (r ≤ 8) ⌝ }
 {
     if section2.len() == 0 {
@@ -314,7 +314,7 @@ pub fn table_room() -> [u32; 3080]
 
 // Section 2's tables are taken apart into the room; answered is how many of its numbers hold them, 0 without Section 2.
 pub fn hold_tables(section2: &[u8], tab: &mut [u32]) -> usize
-    requires { ⌜ (length (now tab) ≡ 3080) × (givenRight (now section2) ≡ true) ⌝ }
+    requires { ⌜ (length (now tab) ≡ 3080) × (tablesGivenRight (now section2) ≡ true) ⌝ }
     ensures { λ r. ⌜ (r ≤ 3080) × Holding (tablesGiven (now (section2 .entry))) (take r (now (tab .exit)))
         × (r ≡ heldFor (length (now (section2 .entry)))) ⌝ }
 {

@@ -22,13 +22,13 @@ abbrev pub bimodalOf : List ℕ → ℕ
 bimodalOf s = byteAt s 21
 
 -- how many bytes each lead's stream has (2 for each lead); behind these counts stand the streams, in the order of the leads
-abbrev pub streamBytes : List ℕ → ℕ → ℕ
-streamBytes s k = numberAt 2 s (22 + 2 * k)
+abbrev pub byteCountOf : List ℕ → ℕ → ℕ
+byteCountOf s k = numberAt 2 s (22 + 2 * k)
 
 -- how many bytes the streams before that of lead k have together
 unfoldable pub bytesBefore : List ℕ → ℕ → ℕ
 bytesBefore s zero = 0
-bytesBefore s (suc k) = bytesBefore s k + streamBytes s k
+bytesBefore s (suc k) = bytesBefore s k + byteCountOf s k
 
 -- the place where the stream of lead k starts; for k = n, the place after the last stream
 unfoldable pub streamStart : ℕ → List ℕ → ℕ → ℕ
@@ -36,7 +36,7 @@ streamStart n s k = 22 + 2 * n + bytesBefore s k
 
 -- the bytes of the stream of lead k
 unfoldable pub streamOf : ℕ → List ℕ → ℕ → List ℕ
-streamOf n s k = part s (streamStart n s k) (streamStart n s k + streamBytes s k)
+streamOf n s k = part s (streamStart n s k) (streamStart n s k + byteCountOf s k)
 
 -- neither step nor interval is 0, the order is 0 to 2, and the streams end with the section, or one spare byte before its end
 unfoldable pub streamsRight : ℕ → List ℕ → Bool

@@ -5,8 +5,8 @@ ghost use Prim.Native.Nat.{_+_, _*_, _<_, _≤_};
 ghost use lib.ListN.{length};
 ghost use Rattle.wire.specs.Rules.{allIn};
 ghost use Rattle.entries.specs.Leads.{firstSample, lastSample, sampleCount, leadRight, section3Right};
-ghost use Rattle.entries.specs.Streams.{streamBytes, bytesBefore, streamStart, streamOf, streamsRight, section6Right};
-ghost use Rattle.entries.specs.Beat.{zoneType, zoneBegin, zoneFiducial, zoneEnd, beatSamples, lastBefore, zoneRight, section4Right};
+ghost use Rattle.entries.specs.Streams.{byteCountOf, bytesBefore, streamStart, streamOf, streamsRight, section6Right};
+ghost use Rattle.entries.specs.Beat.{qrsType, zoneBegin, qrsFiducial, zoneEnd, samplesInBeat, lastBefore, zoneRight, section4Right};
 
 // The first sample's number of lead k.
 pub fn first_sample(s: &[u8], k: usize) -> usize
@@ -90,7 +90,7 @@ pub fn section3_right(s: &[u8]) -> bool
 // How many bytes the stream of lead k has.
 pub fn stream_bytes(s: &[u8], k: usize) -> usize
     requires { ⌜ k < 256 ⌝ }
-    ensures { λ r. ⌜ (r ≡ streamBytes (now (s .entry)) k) × (r < 65536) ⌝ }
+    ensures { λ r. ⌜ (r ≡ byteCountOf (now (s .entry)) k) × (r < 65536) ⌝ }
 {
     wire::number16(s, 22 + 2 * k)
 }
@@ -158,7 +158,7 @@ pub fn section6_right(s: &[u8], n: usize) -> bool
 // The type of zone k.
 pub fn zone_type(s: &[u8], k: usize) -> usize
     requires { ⌜ k < 65536 ⌝ }
-    ensures { λ r. ⌜ (r ≡ zoneType (now (s .entry)) k) × (r < 65536) ⌝ }
+    ensures { λ r. ⌜ (r ≡ qrsType (now (s .entry)) k) × (r < 65536) ⌝ }
 {
     wire::number16(s, 22 + 14 * k)
 }
@@ -174,7 +174,7 @@ pub fn zone_begin(s: &[u8], k: usize) -> usize
 // Its fiducial.
 pub fn zone_fiducial(s: &[u8], k: usize) -> usize
     requires { ⌜ k < 65536 ⌝ }
-    ensures { λ r. ⌜ (r ≡ zoneFiducial (now (s .entry)) k) × (r < 4294967296) ⌝ }
+    ensures { λ r. ⌜ (r ≡ qrsFiducial (now (s .entry)) k) × (r < 4294967296) ⌝ }
 {
     wire::number32(s, 28 + 14 * k)
 }
@@ -188,9 +188,9 @@ pub fn zone_end(s: &[u8], k: usize) -> usize
 }
 
 // How many samples a beat of so many milliseconds has.
-pub fn beat_samples(ms: usize, interval: usize) -> usize
+pub fn samples_in_beat(ms: usize, interval: usize) -> usize
     requires { ⌜ (ms < 65536) × (0 < interval) ⌝ }
-    ensures { λ r. ⌜ (r ≡ beatSamples ms interval) × (r ≤ 65535000) ⌝ }
+    ensures { λ r. ⌜ (r ≡ samplesInBeat ms interval) × (r ≤ 65535000) ⌝ }
 {
     1000 * ms / interval
 }

@@ -17,7 +17,7 @@ use Rattle.header.specs.declared.Field.{Field}
 use Rattle.header.specs.declared.Step.{Step}
 use Rattle.header.specs.declared.Step.the-variants.{Found, End}
 use Rattle.header.specs.Fields.{isField, fieldAt, stepAt, fieldsFrom, fieldsEnd, withTag, occurring, sizeOf}
-use Rattle.header.specs.Header.{endsAt, sole, keeps, isIdentifier, hasSize, anyField, tagsRight, section1Right}
+use Rattle.header.specs.Header.{endsAt, sole, foundKeeps, isIdentifier, hasSize, anyField, tagsRight, section1Right}
 use Rattle.header.proofs.Laws.{along, fields-step, end-here, end-later}
 
 -- a field moved on
@@ -54,10 +54,10 @@ sole-moved (f ∷ []) = refl
 sole-moved (f ∷ (g ∷ fs)) = refl
 
 -- a rule that the moved field keeps where the field does
-keeps-moved : (p q : Field → Bool) → ((f : Field) → p f ≡ true → q (moved f) ≡ true) → (s : Step) → keeps p s ≡ true
-    → keeps q (movedStep s) ≡ true
-keeps-moved p q h (Found f) e = h f e
-keeps-moved p q h End e = e
+foundKeeps-moved : (p q : Field → Bool) → ((f : Field) → p f ≡ true → q (moved f) ≡ true) → (s : Step) → foundKeeps p s ≡ true
+    → foundKeeps q (movedStep s) ≡ true
+foundKeeps-moved p q h (Found f) e = h f e
+foundKeeps-moved p q h End e = e
 
 -- the end of moved fields
 end-moved : (at : ℕ) (fs : List Field) → fieldsEnd (16 + at) (map moved fs) ≡ 16 + fieldsEnd at fs
@@ -165,17 +165,17 @@ module _ {r s : List ℕ} (m : Moved r 16 s) where
   tags-moved : (fs : List Field) → tagsRight s fs ≡ true → tagsRight r (map moved fs) ≡ true
   unfolding tagsRight
   tags-moved fs g =
-      let two = keeps (isIdentifier s) (sole (withTag 2 fs)) in
-      let fourteen = keeps anyField (sole (withTag 14 fs)) in
-      let five = keeps (hasSize 4) (sole (withTag 25 fs)) in
-      let six = keeps (hasSize 3) (sole (withTag 26 fs)) in
+      let two = foundKeeps (isIdentifier s) (sole (withTag 2 fs)) in
+      let fourteen = foundKeeps anyField (sole (withTag 14 fs)) in
+      let five = foundKeeps (hasSize 4) (sole (withTag 25 fs)) in
+      let six = foundKeeps (hasSize 3) (sole (withTag 26 fs)) in
       let p = and-eq-true-iff two (fourteen && (five && six)) .0 g in
       let q = and-eq-true-iff fourteen (five && six) .0 (p .1) in
       let w = and-eq-true-iff five six .0 (q .1) in
-      let a = keeps-moved (isIdentifier s) (isIdentifier r) identifier-moved (sole (withTag 2 fs)) (p .0) in
-      let b = keeps-moved anyField anyField (λ f e. refl) (sole (withTag 14 fs)) (q .0) in
-      let c = keeps-moved (hasSize 4) (hasSize 4) (size-moved 4) (sole (withTag 25 fs)) (w .0) in
-      let d = keeps-moved (hasSize 3) (hasSize 3) (size-moved 3) (sole (withTag 26 fs)) (w .1) in
+      let a = foundKeeps-moved (isIdentifier s) (isIdentifier r) identifier-moved (sole (withTag 2 fs)) (p .0) in
+      let b = foundKeeps-moved anyField anyField (λ f e. refl) (sole (withTag 14 fs)) (q .0) in
+      let c = foundKeeps-moved (hasSize 4) (hasSize 4) (size-moved 4) (sole (withTag 25 fs)) (w .0) in
+      let d = foundKeeps-moved (hasSize 3) (hasSize 3) (size-moved 3) (sole (withTag 26 fs)) (w .1) in
       simp (tag-moved, sole-moved, a, b, c, d)
 
   -- the rule's two parts

@@ -23,9 +23,9 @@ sole (f ∷ []) = Found f
 sole (f ∷ (g ∷ fs)) = End
 
 -- there is such a field, and it keeps a rule of its own
-abbrev pub keeps : (Field → Bool) → Step → Bool
-keeps rule (Found f) = rule f
-keeps rule End = false
+abbrev pub foundKeeps : (Field → Bool) → Step → Bool
+foundKeeps rule (Found f) = rule f
+foundKeeps rule End = false
 
 -- the patient identifier: 2 to 64 bytes, of which the last is NUL and no other
 unfoldable pub isIdentifier : List ℕ → Field → Bool
@@ -46,9 +46,9 @@ anyField f = true
 -- four tags must stand, each in one field only: 2, the identifier; 14, of any size; 25, of four bytes; 26, of three
 unfoldable pub tagsRight : List ℕ → List Field → Bool
 tagsRight s fs =
-    keeps (isIdentifier s) (sole (withTag 2 fs))
-    && (keeps anyField (sole (withTag 14 fs))
-    && (keeps (hasSize 4) (sole (withTag 25 fs)) && keeps (hasSize 3) (sole (withTag 26 fs))))
+    foundKeeps (isIdentifier s) (sole (withTag 2 fs))
+    && (foundKeeps anyField (sole (withTag 14 fs))
+    && (foundKeeps (hasSize 4) (sole (withTag 25 fs)) && foundKeeps (hasSize 3) (sole (withTag 26 fs))))
 
 -- 6: the fields stand up to the end mark, with at most `spare` bytes behind it (1 in a record, 0 for the writer), and the
 -- tags that must stand keep their rules

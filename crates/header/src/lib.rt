@@ -6,7 +6,7 @@ ghost use lib.Dec.{eqb};
 ghost use Rattle.wire.specs.Numbers.{byteAt};
 ghost use Rattle.wire.specs.Rules.{allIn};
 ghost use Rattle.header.specs.Fields.{stepAt, fieldsFrom, fieldsEnd, withTag, occurring};
-ghost use Rattle.header.specs.Header.{endsAt, sole, keeps, isIdentifier, anyField, hasSize, section1Right};
+ghost use Rattle.header.specs.Header.{endsAt, sole, foundKeeps, isIdentifier, anyField, hasSize, section1Right};
 
 // A field: its tag, and its bytes from `start` up to `end` of the list that was walked.
 pub struct Field {
@@ -180,7 +180,7 @@ fn is_identifier(s: &[u8], f: Field) -> bool
 
 // Tag 2 stands once, and is an identifier.
 fn has_identifier(s: &[u8], at: usize) -> bool
-    ensures { λ r. ⌜ r ≡ keeps (isIdentifier (now (s .entry))) (sole (withTag 2 (fieldsFrom (now (s .entry)) at))) ⌝ }
+    ensures { λ r. ⌜ r ≡ foundKeeps (isIdentifier (now (s .entry))) (sole (withTag 2 (fieldsFrom (now (s .entry)) at))) ⌝ }
 {
     match sole_named(s, at, 2) {
         Step::Found(f) => is_identifier(s, f),
@@ -190,7 +190,7 @@ fn has_identifier(s: &[u8], at: usize) -> bool
 
 // A tag stands once.
 fn has_field(s: &[u8], at: usize, tag: u8) -> bool
-    ensures { λ r. ⌜ r ≡ keeps anyField (sole (withTag tag (fieldsFrom (now (s .entry)) at))) ⌝ }
+    ensures { λ r. ⌜ r ≡ foundKeeps anyField (sole (withTag tag (fieldsFrom (now (s .entry)) at))) ⌝ }
 {
     match sole_named(s, at, tag) {
         Step::Found(_) => true,
@@ -200,7 +200,7 @@ fn has_field(s: &[u8], at: usize, tag: u8) -> bool
 
 // A tag stands once, with so many bytes.
 fn has_sized(s: &[u8], at: usize, tag: u8, size: usize) -> bool
-    ensures { λ r. ⌜ r ≡ keeps (hasSize size) (sole (withTag tag (fieldsFrom (now (s .entry)) at))) ⌝ }
+    ensures { λ r. ⌜ r ≡ foundKeeps (hasSize size) (sole (withTag tag (fieldsFrom (now (s .entry)) at))) ⌝ }
 {
     match sole_named(s, at, tag) {
         Step::Found(f) => size_is(f, size),

@@ -13,10 +13,10 @@ use borrow.Author.Tests.{ne-eqb}
 use Rattle.wire.specs.Numbers.{bytesOf}
 use Rattle.wire.specs.Check.{crcOf}
 use Rattle.wire.proofs.Laws.{put-next, length-bytesOf}
-use Rattle.layout.specs.Layout.{evened, sizeFor, checked, sectionBytes, noLetters, letters}
-use Rattle.layout.specs.Layout.{entriesOf, leadsData, countsOf, joined, streamsData}
-use Rattle.layout.specs.Layout.{pointerBytes, absent, pointersData, givenSize, givenSection, recordSize, recordBytes}
-use Rattle.layout.specs.Counts.{byteCounts}
+use Rattle.layout.specs.Layout.{evened, sectionLength, checked, sectionBytes, zeroReserved, letters}
+use Rattle.layout.specs.Layout.{entriesOf, leadsData, byteCountsOf, joined, streamsData}
+use Rattle.layout.specs.Layout.{pointerBytes, absent, pointersData, section2Size, section2Bytes, recordSize, recordBytes}
+use Rattle.layout.specs.InnerCounts.{byteCounts}
 use Rattle.layout.specs.InnerHeader.{headed}
 use Rattle.layout.specs.InnerPointers.{absents}
 use Rattle.layout.specs.InnerLeads.{entryBytes}
@@ -68,13 +68,13 @@ filled-behind {l} {q} {x} {j} {k} f = ap (drop j) (f .is) ∙ drop-at (take j l)
 -- ---- a section
 
 -- a part with header and check around the evened data is that section
-pub sealed-is : (id version : ℕ) (reserved l contents : List ℕ) → drop 16 l ≡ evened contents → length l ≡ sizeFor (length contents)
+pub sealed-is : (id version : ℕ) (reserved l contents : List ℕ) → drop 16 l ≡ evened contents → length l ≡ sectionLength (length contents)
     → checked (headed id (length l) version reserved (drop 16 l)) ≡ sectionBytes id version reserved contents
 unfolding sectionBytes
 sealed-is id version reserved l contents e n = rw (e, n)
 
 -- data are put behind the header, and then their spare byte, as 0: they stand there evened
-pub spare-put : {l x y : List ℕ} {k : ℕ} (contents : List ℕ) → Filled l 16 contents k x → length x ≡ sizeFor (length contents)
+pub spare-put : {l x y : List ℕ} {k : ℕ} (contents : List ℕ) → Filled l 16 contents k x → length x ≡ sectionLength (length contents)
     → y ≡ take k x ++ replicate (length x - k) 0 → drop 16 y ≡ evened contents
 unfolding evened
 spare-put {l} {x} {y} {k} contents f n e =
@@ -96,10 +96,10 @@ unfolding checked
 length-checked body = rw (length-append (bytesOf 2 (crcOf body)) body, length-bytesOf 2 (crcOf body))
 
 pub length-sectionBytes : (id version : ℕ) (reserved contents : List ℕ) → length reserved ≡ 6
-    → length (sectionBytes id version reserved contents) ≡ sizeFor (length contents)
+    → length (sectionBytes id version reserved contents) ≡ sectionLength (length contents)
 unfolding sectionBytes evened
 length-sectionBytes id version reserved contents h =
-    rw (length-checked (headed id (sizeFor (length contents)) version reserved (evened contents)))
+    rw (length-checked (headed id (sectionLength (length contents)) version reserved (evened contents)))
     (simp (length-append, length-bytesOf, length-replicate, h) (omega arith))
 
 -- ---- pointers
@@ -212,44 +212,44 @@ pub counts-more : (ns : List ℕ) (k : ℕ) → k < length ns → byteCounts (ta
 counts-more ns k h = rw (add-one k) (counts-snoc ns k h)
 
 -- those of the streams' lengths are the streams'
-pub counts-are : (streams : List (List ℕ)) → byteCounts (map length streams) ≡ countsOf streams
-unfolding byteCounts countsOf
+pub counts-are : (streams : List (List ℕ)) → byteCounts (map length streams) ≡ byteCountsOf streams
+unfolding byteCounts byteCountsOf
 counts-are [] = refl
 counts-are (stream ∷ streams) = ap (λ (l : List ℕ). bytesOf 2 (length stream) ++ l) (counts-are streams)
 
-pub length-countsOf : (streams : List (List ℕ)) → length (countsOf streams) ≡ 2 * length streams
-length-countsOf streams = rw (← counts-are streams, length-byteCounts (map length streams), length-map)
+pub length-byteCountsOf : (streams : List (List ℕ)) → length (byteCountsOf streams) ≡ 2 * length streams
+length-byteCountsOf streams = rw (← counts-are streams, length-byteCounts (map length streams), length-map)
 
 pub length-streamsData : (step interval order : ℕ) (streams : List (List ℕ))
     → length (streamsData step interval order streams) ≡ 6 + 2 * length streams + length (joined streams)
 unfolding streamsData
-length-streamsData step interval order streams = simp (length-append, length-bytesOf, length-countsOf) (omega arith)
+length-streamsData step interval order streams = simp (length-append, length-bytesOf, length-byteCountsOf) (omega arith)
 
 -- ---- the record
 
-pub length-givenSection : (version : ℕ) (contents : List ℕ) → length (givenSection version contents) ≡ givenSize (length contents)
-unfolding givenSection
-length-givenSection version [] = refl
-length-givenSection version (b ∷ contents) =
-    rw (ne-eqb (suc (length contents)) 0 (λ e. omega arith)) (length-sectionBytes 2 version noLetters (b ∷ contents) refl)
+pub length-section2Bytes : (version : ℕ) (contents : List ℕ) → length (section2Bytes version contents) ≡ section2Size (length contents)
+unfolding section2Bytes
+length-section2Bytes version [] = refl
+length-section2Bytes version (b ∷ contents) =
+    rw (ne-eqb (suc (length contents)) 0 (λ e. omega arith)) (length-sectionBytes 2 version zeroReserved (b ∷ contents) refl)
 
 pub length-recordBytes : (version : ℕ) (data1 data2 data3 data6 : List ℕ)
     → length (recordBytes version data1 data2 data3 data6) ≡ recordSize (length data1) (length data2) (length data3) (length data6)
 unfolding recordBytes
 length-recordBytes version data1 data2 data3 data6 =
-    let size1 = sizeFor (length data1) in
-    let size2 = givenSize (length data2) in
-    let size3 = sizeFor (length data3) in
-    let size6 = sizeFor (length data6) in
+    let size1 = sectionLength (length data1) in
+    let size2 = section2Size (length data2) in
+    let size3 = sectionLength (length data3) in
+    let size6 = sectionLength (length data6) in
     let pointers = pointersData size1 size2 size3 size6 in
-    let zeroth = length-sectionBytes 0 version letters pointers refl ∙ ap sizeFor (length-pointersData size1 size2 size3 size6) in
+    let zeroth = length-sectionBytes 0 version letters pointers refl ∙ ap sectionLength (length-pointersData size1 size2 size3 size6) in
     length-checked _
     ∙ simp (
       length-append,
       length-bytesOf,
       zeroth,
-      length-sectionBytes 1 version noLetters data1 refl,
-      length-givenSection version data2,
-      length-sectionBytes 3 version noLetters data3 refl,
-      length-sectionBytes 6 version noLetters data6 refl,
+      length-sectionBytes 1 version zeroReserved data1 refl,
+      length-section2Bytes version data2,
+      length-sectionBytes 3 version zeroReserved data3 refl,
+      length-sectionBytes 6 version zeroReserved data6 refl,
     ) (omega arith)

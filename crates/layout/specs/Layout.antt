@@ -16,8 +16,8 @@ unfoldable pub evened : List ℕ → List ℕ
 evened contents = contents ++ replicate (length contents % 2) 0
 
 -- the length of a section with so many bytes of data: the header's 16, the data, and the spare byte where there is one
-abbrev pub sizeFor : ℕ → ℕ
-sizeFor count = 16 + count + count % 2
+abbrev pub sectionLength : ℕ → ℕ
+sectionLength count = 16 + count + count % 2
 
 -- the check over the bytes that follow it, and these
 unfoldable pub checked : List ℕ → List ℕ
@@ -26,11 +26,11 @@ checked body = bytesOf 2 (crcOf body) ++ body
 -- a section: its check, its ID in two bytes, its length in four, the version byte twice, six reserved bytes, then the data made even
 unfoldable pub sectionBytes : ℕ → ℕ → List ℕ → List ℕ → List ℕ
 sectionBytes id version reserved contents =
-    checked (bytesOf 2 id ++ (bytesOf 4 (sizeFor (length contents)) ++ (version ∷ (version ∷ (reserved ++ evened contents)))))
+    checked (bytesOf 2 id ++ (bytesOf 4 (sectionLength (length contents)) ++ (version ∷ (version ∷ (reserved ++ evened contents)))))
 
 -- the six reserved bytes of a header: 0, but in Section 0 the letters SCPECG
-abbrev pub noLetters : List ℕ
-noLetters = 0 ∷ (0 ∷ (0 ∷ (0 ∷ (0 ∷ (0 ∷ [])))))
+abbrev pub zeroReserved : List ℕ
+zeroReserved = 0 ∷ (0 ∷ (0 ∷ (0 ∷ (0 ∷ (0 ∷ [])))))
 
 abbrev pub letters : List ℕ
 letters = 83 ∷ (67 ∷ (80 ∷ (69 ∷ (67 ∷ (71 ∷ [])))))
@@ -50,9 +50,9 @@ unfoldable pub leadsData : ℕ → List ℕ → List ℕ → List ℕ → List �
 leadsData flags firsts counts ids = length counts ∷ ((flags - flags % 2) ∷ entriesOf firsts counts ids)
 
 -- how many bytes each lead's stream has, in two bytes; and the streams one after another
-unfoldable pub countsOf : List (List ℕ) → List ℕ
-countsOf [] = []
-countsOf (stream ∷ streams) = bytesOf 2 (length stream) ++ countsOf streams
+unfoldable pub byteCountsOf : List (List ℕ) → List ℕ
+byteCountsOf [] = []
+byteCountsOf (stream ∷ streams) = bytesOf 2 (length stream) ++ byteCountsOf streams
 
 unfoldable pub joined : List (List ℕ) → List ℕ
 joined [] = []
@@ -61,7 +61,7 @@ joined (stream ∷ streams) = stream ++ joined streams
 -- Section 6's data: step (2), interval (2), difference order (1), bimodal, which is 0 (1), byte counts, streams
 unfoldable pub streamsData : ℕ → ℕ → ℕ → List (List ℕ) → List ℕ
 streamsData step interval order streams =
-    bytesOf 2 step ++ (bytesOf 2 interval ++ (order ∷ (0 ∷ (countsOf streams ++ joined streams))))
+    bytesOf 2 step ++ (bytesOf 2 interval ++ (order ∷ (0 ∷ (byteCountsOf streams ++ joined streams))))
 
 -- ---- the record
 
@@ -87,15 +87,15 @@ pointersData size1 size2 size3 size6 =
     ++ (absent 7 ++ (absent 8 ++ (absent 9 ++ (absent 10 ++ absent 11))))))))))
 
 -- the length and the bytes of Section 2: none where no data are given
-abbrev pub givenSize : ℕ → ℕ
-givenSize count = cond (eqb count 0) 0 (sizeFor count)
+abbrev pub section2Size : ℕ → ℕ
+section2Size count = cond (eqb count 0) 0 (sectionLength count)
 
-unfoldable pub givenSection : ℕ → List ℕ → List ℕ
-givenSection version contents = cond (eqb (length contents) 0) [] (sectionBytes 2 version noLetters contents)
+unfoldable pub section2Bytes : ℕ → List ℕ → List ℕ
+section2Bytes version contents = cond (eqb (length contents) 0) [] (sectionBytes 2 version zeroReserved contents)
 
 -- the record's length, by those of its data
 abbrev pub recordSize : ℕ → ℕ → ℕ → ℕ → ℕ
-recordSize count1 count2 count3 count6 = 142 + sizeFor count1 + givenSize count2 + sizeFor count3 + sizeFor count6
+recordSize count1 count2 count3 count6 = 142 + sectionLength count1 + section2Size count2 + sectionLength count3 + sectionLength count6
 
 -- the record's check, its size in four bytes, then Section 0 and the sections that are there
 unfoldable pub recordBytes : ℕ → List ℕ → List ℕ → List ℕ → List ℕ → List ℕ
@@ -103,7 +103,8 @@ recordBytes version data1 data2 data3 data6 =
     checked
     (bytesOf 4 (recordSize (length data1) (length data2) (length data3) (length data6))
     ++ (sectionBytes 0 version letters
-    (pointersData (sizeFor (length data1)) (givenSize (length data2)) (sizeFor (length data3)) (sizeFor (length data6)))
-    ++ (sectionBytes 1 version noLetters data1
-    ++ (givenSection version data2
-    ++ (sectionBytes 3 version noLetters data3 ++ sectionBytes 6 version noLetters data6)))))
+    (pointersData (sectionLength (length data1)) (section2Size (length data2)) (sectionLength (length data3))
+    (sectionLength (length data6)))
+    ++ (sectionBytes 1 version zeroReserved data1
+    ++ (section2Bytes version data2
+    ++ (sectionBytes 3 version zeroReserved data3 ++ sectionBytes 6 version zeroReserved data6)))))

@@ -1,5 +1,5 @@
 pub mod Layout
-pub mod Counts
+pub mod InnerCounts
 pub mod InnerHeader
 pub mod InnerPointers
 pub mod InnerLeads

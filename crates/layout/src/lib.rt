@@ -7,9 +7,9 @@ ghost use Prim.Native.Nat.{ℕ, _+_, _-_, _*_, _≤_, _<_};
 ghost use lib.Dec.{eqb};
 ghost use lib.ListN.{length, getD, replicate, take, drop};
 ghost use Rattle.wire.specs.Numbers.{bytesOf};
-ghost use Rattle.layout.specs.Layout.{evened, sizeFor, checked, sectionBytes, noLetters, letters};
+ghost use Rattle.layout.specs.Layout.{evened, sectionLength, checked, sectionBytes, zeroReserved, letters};
 ghost use Rattle.layout.specs.Layout.{entriesOf, leadsData, pointerBytes, pointersData};
-ghost use Rattle.layout.specs.Counts.{byteCounts};
+ghost use Rattle.layout.specs.InnerCounts.{byteCounts};
 ghost use Rattle.layout.specs.InnerHeader.{headed};
 ghost use Rattle.layout.specs.InnerPointers.{absents};
 ghost use Rattle.layout.specs.InnerLeads.{entryBytes};
@@ -56,11 +56,11 @@ pub fn seal(part: &mut [u8], id: usize, version: u8)
     requires { ⌜ 16 ≤ length (now part) ⌝ }
     ensures { λ _. ⌜ now (part .exit)
         ≡ checked (bytesOf 2 id ++ (bytesOf 4 (length (now (part .entry)))
-        ++ (version ∷ (version ∷ (noLetters ++ drop 16 (now (part .entry))))))) ⌝ }
+        ++ (version ∷ (version ∷ (zeroReserved ++ drop 16 (now (part .entry))))))) ⌝ }
     ensures { λ _. ⌜ ((contents : List ℕ)
         → drop 16 (now (part .entry)) ≡ evened contents
-        → length (now (part .entry)) ≡ sizeFor (length contents)
-        → now (part .exit) ≡ sectionBytes id version noLetters contents) ⌝ }
+        → length (now (part .entry)) ≡ sectionLength (length contents)
+        → now (part .exit) ≡ sectionBytes id version zeroReserved contents) ⌝ }
 {
     seal_with(part, id, version, b"\x00\x00\x00\x00\x00\x00");
 }
@@ -78,8 +78,8 @@ pub fn put_spare(part: &mut [u8], end: usize)
 
 // Section 1 or 2, of the data that it is given.
 pub fn write_section(part: &mut [u8], id: usize, version: u8, contents: &[u8])
-    requires { ⌜ length (now part) ≡ sizeFor (length (now contents)) ⌝ }
-    ensures { λ _. ⌜ now (part .exit) ≡ sectionBytes id version noLetters (now (contents .entry)) ⌝ }
+    requires { ⌜ length (now part) ≡ sectionLength (length (now contents)) ⌝ }
+    ensures { λ _. ⌜ now (part .exit) ≡ sectionBytes id version zeroReserved (now (contents .entry)) ⌝ }
 {
     put_bytes(part, 16, contents);
     put_spare(part, 16 + contents.len());
@@ -183,10 +183,10 @@ pub fn write_leads(
     ids: &[u8],
 )
     requires { ⌜ (length (now firsts) ≡ length (now counts)) × (length (now ids) ≡ length (now counts))
-        × (length (now counts) ≤ 32) × (length (now part) ≡ sizeFor (2 + 9 * length (now counts))) ⌝ }
+        × (length (now counts) ≤ 32) × (length (now part) ≡ sectionLength (2 + 9 * length (now counts))) ⌝ }
     requires { ⌜ ((k : ℕ) → k < length (now counts) → 1 ≤ getD (now counts) k 0) ⌝ }
     ensures { λ _. ⌜ now (part .exit)
-        ≡ sectionBytes 3 version noLetters (leadsData flags (now (firsts .entry)) (now (counts .entry)) (now (ids .entry))) ⌝ }
+        ≡ sectionBytes 3 version zeroReserved (leadsData flags (now (firsts .entry)) (now (counts .entry)) (now (ids .entry))) ⌝ }
 {
     part[16] = counts.len() as u8;
     part[17] = flags - flags % 2;

@@ -18,13 +18,14 @@ use Rattle.tables.specs.Section2.{tablesIn}
 use Rattle.compiled.specs.InnerForm.{Ready, Holding}
 use Rattle.entries.specs.Leads.{firstSample}
 use Rattle.entries.proofs.Laws.{leads-right, lead-samples}
-use Rattle.rules.specs.Rules.{leadsOf, hasBeat, beatCount, leadRefusal}
+use Rattle.rules.specs.Rules.{leadCountOf, beatSubtracted, beatSampleCount, leadRefusal}
 use Rattle.rules.proofs.Laws.{both-passed, asked, sound}
-use Rattle.samples.specs.Trace.{Trace, rebuilt, fault, afterTrace, traceOf}
+use Rattle.samples.specs.Trace.{Trace, rebuilt, fault, afterTrace}
+use Rattle.samples.specs.InnerTrace.{traceOf}
 use Rattle.traces.proofs.Laws.{rebuilt-length}
 use Rattle.beats.specs.Sums.{addBeat}
 use Rattle.beats.proofs.Laws.{added-length}
-use Rattle.leads.specs.Leads.{tablesOf, countAt, streamTrace, residual, traceAt, roomRight, readRefusal, readTrace}
+use Rattle.leads.specs.Leads.{tablesOf, sampleCountAt, streamTrace, residual, traceAt, roomRight, readRefusal, readTrace}
 use Rattle.leads.specs.InnerLead.{Readable, clearedIf}
 use Rattle.leads.specs.Answers.{outAfter, workAfter, entryAnswer}
 
@@ -62,12 +63,12 @@ traced : (n : ℕ) (xs : List ℤ) (t : Trace) → n ≡ 0 → traceOf n xs ≡ 
 traced n xs t z e = ap (λ (m : ℕ). traceOf m xs) (sym z) ∙ e
 
 -- where no beat was subtracted the lead is all that Section 6 holds
-pub without-beat : (r : List ℕ) (k : ℕ) → hasBeat r ≡ false → residual r k ≡ traceAt r k
+pub without-beat : (r : List ℕ) (k : ℕ) → beatSubtracted r ≡ false → residual r k ≡ traceAt r k
 unfolding traceAt
 without-beat r k e = rw e
 
 -- a lead from which a beat was subtracted
-module _ (r : List ℕ) (k : ℕ) (here : hasBeat r ≡ true) (beat : List ℤ) (n : ℕ) (read : traceOf n beat ≡ streamTrace r 5 (beatCount r) k) where
+module _ (r : List ℕ) (k : ℕ) (here : beatSubtracted r ≡ true) (beat : List ℤ) (n : ℕ) (read : traceOf n beat ≡ streamTrace r 5 (beatSampleCount r) k) where
   -- the beat's fault is the lead's
   pub beat-fault : (ys : List ℤ) → (n ≡ 0 → ⊥) → traceOf n ys ≡ traceAt r k
   unfolding traceAt
@@ -141,24 +142,24 @@ module _ (r : List ℕ) (place room n : ℕ) (work : List ℤ) (e : n ≡ readRe
   work-refused h = rw (differ e refl h)
 
   -- or as the reading leaves it
-  pub work-read : n ≡ 0 → clearedIf (hasBeat r) work ≡ workAfter r place room work
+  pub work-read : n ≡ 0 → clearedIf (beatSubtracted r) work ≡ workAfter r place room work
   unfolding workAfter
-  work-read z = rw (same e refl z) (go (hasBeat r))
+  work-read z = rw (same e refl z) (go (beatSubtracted r))
     where
       go : (b : Bool) → clearedIf b work ≡ cond b (replicate (length work) (pos 0)) work
       go true = refl
       go false = refl
 
 -- a lead that none of 1 to 11 refuses can be read
-pub readable : (r : List ℕ) (place room work : ℕ) → readRefusal r place room work ≡ 0 → (1 ≤ place) × Readable r (place - 1) work × (countAt r (place - 1) ≤ room)
+pub readable : (r : List ℕ) (place room work : ℕ) → readRefusal r place room work ≡ 0 → (1 ≤ place) × Readable r (place - 1) work × (sampleCountAt r (place - 1) ≤ room)
 unfolding readRefusal roomRight
 readable r place room work h =
     let k = place - 1 in
     let p = both-passed (leadRefusal r place) _ h in
-    let q = and-eq-true-iff (leb (countAt r k) room) _ .0 (kept-first (roomRight r k room work) 10 _ (p .1) .0) in
+    let q = and-eq-true-iff (leb (sampleCountAt r k) room) _ .0 (kept-first (roomRight r k room work) 10 _ (p .1) .0) in
     let s = sound r place (p .0) in
     let most = leads-right (sectionOf r 3) (s .leads) .most in
-    let inside : k < leadsOf r = omega (arith, s .first, s .last) in
+    let inside : k < leadCountOf r = omega (arith, s .first, s .last) in
     let whole : Readable r k work =
     record {
       tables = s .tables;
@@ -166,21 +167,21 @@ readable r place room work h =
       place = inside;
       leads = most;
       count = lead-samples (sectionOf r 3) k (s .leads) inside .1;
-      beatRoom = λ b. leb-true (beatCount r) work (asked (hasBeat r) (leb (beatCount r) work) (q .1) b);
+      beatRoom = λ b. leb-true (beatSampleCount r) work (asked (beatSubtracted r) (leb (beatSampleCount r) work) (q .1) b);
     } in
-    (s .first, whole, leb-true (countAt r k) room (q .0))
+    (s .first, whole, leb-true (sampleCountAt r k) room (q .0))
 
 -- a lead has as many samples as Section 3 says
-residual-length : (r : List ℕ) (k : ℕ) (ys : List ℤ) → residual r k ≡ rebuilt ys → length ys ≡ countAt r k
+residual-length : (r : List ℕ) (k : ℕ) (ys : List ℤ) → residual r k ≡ rebuilt ys → length ys ≡ sampleCountAt r k
 unfolding residual streamTrace
-residual-length r k ys h = rebuilt-length (tablesOf r) _ (countAt r k) _ ys h
+residual-length r k ys h = rebuilt-length (tablesOf r) _ (sampleCountAt r k) _ ys h
 
-pub trace-length : (r : List ℕ) (k : ℕ) (xs : List ℤ) → rebuilt xs ≡ traceAt r k → length xs ≡ countAt r k
+pub trace-length : (r : List ℕ) (k : ℕ) (xs : List ℤ) → rebuilt xs ≡ traceAt r k → length xs ≡ sampleCountAt r k
 unfolding traceAt
-trace-length r k xs h = go (hasBeat r) (streamTrace r 5 (beatCount r) k) (residual r k) (residual-length r k) h
+trace-length r k xs h = go (beatSubtracted r) (streamTrace r 5 (beatSampleCount r) k) (residual r k) (residual-length r k) h
   where
-    go : (b : Bool) (beat behind : Trace) → ((ys : List ℤ) → behind ≡ rebuilt ys → length ys ≡ countAt r k) →
-        rebuilt xs ≡ cond b (afterTrace (λ bs. afterTrace (λ ys. addBeat (sectionOf r 4) bs (firstSample (sectionOf r 3) k) ys) behind) beat) behind → length xs ≡ countAt r k
+    go : (b : Bool) (beat behind : Trace) → ((ys : List ℤ) → behind ≡ rebuilt ys → length ys ≡ sampleCountAt r k) →
+        rebuilt xs ≡ cond b (afterTrace (λ bs. afterTrace (λ ys. addBeat (sectionOf r 4) bs (firstSample (sectionOf r 3) k) ys) behind) beat) behind → length xs ≡ sampleCountAt r k
     go false beat behind g e = g xs (sym e)
     go true (fault n) behind g e = unlike cc
     go true (rebuilt bs) (fault n) g e = unlike cc

@@ -8,8 +8,8 @@ use lib.IntN.{ℤ, pos}
 use lib.ListN.{length, drop, replicate}
 use Rattle.pointers.specs.Pointers.{sectionOf}
 use Rattle.entries.specs.Leads.{flagsOf, firstSample, lastSample, leadId}
-use Rattle.entries.specs.Streams.{stepOf, intervalOf, orderOf, streamBytes}
-use Rattle.rules.specs.Rules.{leadsOf, hasBeat, leadRefusal}
+use Rattle.entries.specs.Streams.{stepOf, intervalOf, orderOf, byteCountOf}
+use Rattle.rules.specs.Rules.{leadCountOf, beatSubtracted, leadRefusal}
 use Rattle.samples.specs.Trace.{Trace, rebuilt, fault}
 use Rattle.leads.specs.Leads.{readRefusal, readTrace}
 use Rattle.leads.specs.declared.Lead.{Lead}
@@ -41,7 +41,7 @@ outAfter (fault number) out = out
 -- the work space: all of it zeros once a beat's reading has begun, untouched otherwise
 unfoldable pub workAfter : List ℕ → ℕ → ℕ → List ℤ → List ℤ
 workAfter r place room work =
-    cond (eqb (readRefusal r place room (length work)) 0 && hasBeat r) (replicate (length work) (pos 0)) work
+    cond (eqb (readRefusal r place room (length work)) 0 && beatSubtracted r) (replicate (length work) (pos 0)) work
 
 -- what Sections 3 and 6 say of lead k, no stream read; a refusal is its number and nothing else
 abbrev pub entryOf : List ℕ → ℕ → ℕ → Entry
@@ -54,8 +54,8 @@ entryOf r k zero = record {
   interval = intervalOf (sectionOf r 6);
   first = firstSample (sectionOf r 3) k;
   last = lastSample (sectionOf r 3) k;
-  leads = leadsOf r;
-  bytes = streamBytes (sectionOf r 6) k;
+  leads = leadCountOf r;
+  bytes = byteCountOf (sectionOf r 6) k;
 }
 entryOf r k (suc n) = record {
   refusal = suc n;

@@ -5,17 +5,17 @@ use mathlib.Core.Bool.{Bool, true, false}
 use mathlib.Core.List.{List}
 use lib.IntN.{ℤ, pos}
 use lib.ListN.{length, replicate}
-use Rattle.rules.specs.Rules.{tablesRight, leadsOf, hasBeat, beatCount, beatRight}
-use Rattle.leads.specs.Leads.{countAt}
+use Rattle.rules.specs.Rules.{tablesRight, leadCountOf, beatSubtracted, beatSampleCount, beatRight}
+use Rattle.leads.specs.Leads.{sampleCountAt}
 
 -- lead k can be read with so much work space: its tables and its beat were judged, and it is there
 pub record Readable (r : List ℕ) (k work : ℕ) : Type 0 where
   pub tables : tablesRight r ≡ true
   pub beat : beatRight r ≡ true
-  pub place : k < leadsOf r
-  pub leads : leadsOf r ≤ 32
-  pub count : countAt r k ≤ 65536
-  pub beatRoom : hasBeat r ≡ true → beatCount r ≤ work
+  pub place : k < leadCountOf r
+  pub leads : leadCountOf r ≤ 32
+  pub count : sampleCountAt r k ≤ 65536
+  pub beatRoom : beatSubtracted r ≡ true → beatSampleCount r ≤ work
 
 -- the work space where a beat was read, and where none was
 abbrev pub clearedIf : Bool → List ℤ → List ℤ

@@ -10,7 +10,7 @@ use Rattle.tables.specs.declared.Structure.{Structure}
 use Rattle.tables.specs.Section2.{tablesIn}
 use Rattle.entries.specs.Leads.{firstSample, sampleCount}
 use Rattle.entries.specs.Streams.{orderOf, streamOf}
-use Rattle.rules.specs.Rules.{leadsOf, hasBeat, beatCount, leadRefusal}
+use Rattle.rules.specs.Rules.{leadCountOf, beatSubtracted, beatSampleCount, leadRefusal}
 use Rattle.samples.specs.Trace.{Trace, fault, afterTrace}
 use Rattle.traces.specs.Rebuilding.{rebuild}
 use Rattle.beats.specs.Sums.{addBeat}
@@ -22,29 +22,29 @@ tablesOf r = cond (present r 2) (tablesIn (sectionOf r 2) dataAt) []
 -- what lead k's stream in Section 5 or 6 is rebuilt to, by that section's difference order
 unfoldable pub streamTrace : List ℕ → ℕ → ℕ → ℕ → Trace
 streamTrace r section count k =
-    rebuild (tablesOf r) (orderOf (sectionOf r section)) count (bitsIn (streamOf (leadsOf r) (sectionOf r section) k))
+    rebuild (tablesOf r) (orderOf (sectionOf r section)) count (bitsIn (streamOf (leadCountOf r) (sectionOf r section) k))
 
 -- how many samples lead k has
-abbrev pub countAt : List ℕ → ℕ → ℕ
-countAt r k = sampleCount (sectionOf r 3) k
+abbrev pub sampleCountAt : List ℕ → ℕ → ℕ
+sampleCountAt r k = sampleCount (sectionOf r 3) k
 
 -- the residual, or the whole lead where no beat was subtracted
 unfoldable pub residual : List ℕ → ℕ → Trace
-residual r k = streamTrace r 6 (countAt r k) k
+residual r k = streamTrace r 6 (sampleCountAt r k) k
 
 -- with no beat subtracted, the residual alone; else the beat is read first, the residual after it, and
 -- only then is the one added to the other
 unfoldable pub traceAt : List ℕ → ℕ → Trace
 traceAt r k =
-    cond (hasBeat r)
+    cond (beatSubtracted r)
     (afterTrace
     (λ beat. afterTrace (λ xs. addBeat (sectionOf r 4) beat (firstSample (sectionOf r 3) k) xs) (residual r k))
-    (streamTrace r 5 (beatCount r) k))
+    (streamTrace r 5 (beatSampleCount r) k))
     (residual r k)
 
 -- 11: the output has room for the lead's samples, and the work space, where a beat was subtracted, for the beat's
 unfoldable pub roomRight : List ℕ → ℕ → ℕ → ℕ → Bool
-roomRight r k room work = leb (countAt r k) room && (not (hasBeat r) || leb (beatCount r) work)
+roomRight r k room work = leb (sampleCountAt r k) room && (not (beatSubtracted r) || leb (beatSampleCount r) work)
 
 -- the smallest of 1 to 11 that applies, and 0 where none does
 unfoldable pub readRefusal : List ℕ → ℕ → ℕ → ℕ → ℕ

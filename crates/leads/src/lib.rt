@@ -6,10 +6,11 @@ ghost use mathlib.Core.List.{List, _++_};
 ghost use Prim.Native.Nat.{ℕ, _+_, _-_, _<_, _≤_};
 ghost use lib.IntN.{ℤ, pos};
 ghost use lib.ListN.{length, take, drop, replicate};
-ghost use Rattle.rules.specs.Rules.{tablesRight, leadsOf, hasBeat, beatCount, leadRefusal};
+ghost use Rattle.rules.specs.Rules.{tablesRight, leadCountOf, beatSubtracted, beatSampleCount, leadRefusal};
 ghost use Rattle.compiled.specs.InnerForm.{Holding};
-ghost use Rattle.samples.specs.Trace.{rebuilt, fault, traceOf};
-ghost use Rattle.leads.specs.Leads.{tablesOf, countAt, streamTrace, traceAt, roomRight, readRefusal, readTrace};
+ghost use Rattle.samples.specs.Trace.{rebuilt, fault};
+ghost use Rattle.samples.specs.InnerTrace.{traceOf};
+ghost use Rattle.leads.specs.Leads.{tablesOf, sampleCountAt, streamTrace, traceAt, roomRight, readRefusal, readTrace};
 ghost use Rattle.leads.specs.InnerLead.{Readable, clearedIf};
 ghost use Rattle.leads.specs.Answers.{leadOf, leadAnswer, outAfter, workAfter, entryOf, entryAnswer};
 
@@ -86,7 +87,7 @@ fn hold_tables(rec: &[u8], tab: &mut [u32]) -> usize
 
 // Lead k's stream in Section 5 or 6 is rebuilt into the room: 0, or the number of the fault met.
 fn stream_into(rec: &[u8], section: usize, k: usize, tab: &[u32], room: &mut [i16]) -> u8
-    requires { ⌜ Holding (tablesOf (now rec)) (now tab) × (section < 64) × (k < leadsOf (now rec)) ⌝ }
+    requires { ⌜ Holding (tablesOf (now rec)) (now tab) × (section < 64) × (k < leadCountOf (now rec)) ⌝ }
     ensures { λ r. ⌜ (traceOf r (now (room .exit)) ≡ streamTrace (now (rec .entry)) section (length (now (room .entry))) k) × (length (now (room .exit)) ≡ length (now (room .entry))) ⌝ }
 {
     let s = pointers::section_of(rec, section);
@@ -98,7 +99,8 @@ fn stream_into(rec: &[u8], section: usize, k: usize, tab: &[u32], room: &mut [i1
 fn with_beat(rec: &[u8], k: usize, tab: &[u32], room: &mut [i16], beat: &mut [i16]) -> u8
     requires { ⌜ Holding (tablesOf (now rec)) (now tab) ⌝ }
     requires { ⌜ Readable (now rec) k (length (now beat)) ⌝ }
-    requires { ⌜ (length (now room) ≡ countAt (now rec) k) × (length (now beat) ≡ beatCount (now rec)) × (hasBeat (now rec) ≡ true) ⌝ }
+    requires { ⌜ (length (now room) ≡ sampleCountAt (now rec) k) × (length (now beat) ≡ beatSampleCount (now rec))
+        × (beatSubtracted (now rec) ≡ true) ⌝ }
     ensures { λ r. ⌜ (traceOf r (now (room .exit)) ≡ traceAt (now (rec .entry)) k) × (length (now (room .exit)) ≡ length (now (room .entry))) ⌝ }
 {
     let first = entries::first_sample(pointers::section_of(rec, 3), k);
@@ -117,13 +119,13 @@ fn with_beat(rec: &[u8], k: usize, tab: &[u32], room: &mut [i16], beat: &mut [i1
 fn lead_into(rec: &[u8], k: usize, tab: &[u32], room: &mut [i16], work: &mut [i16]) -> u8
     requires { ⌜ Holding (tablesOf (now rec)) (now tab) ⌝ }
     requires { ⌜ Readable (now rec) k (length (now work)) ⌝ }
-    requires { ⌜ length (now room) ≡ countAt (now rec) k ⌝ }
-    ensures { λ r. ⌜ (traceOf r (now (room .exit)) ≡ traceAt (now (rec .entry)) k) × (length (now (room .exit)) ≡ length (now (room .entry))) × (now (work .exit) ≡ clearedIf (hasBeat (now (rec .entry))) (now (work .entry))) ⌝ }
+    requires { ⌜ length (now room) ≡ sampleCountAt (now rec) k ⌝ }
+    ensures { λ r. ⌜ (traceOf r (now (room .exit)) ≡ traceAt (now (rec .entry)) k) × (length (now (room .exit)) ≡ length (now (room .entry))) × (now (work .exit) ≡ clearedIf (beatSubtracted (now (rec .entry))) (now (work .entry))) ⌝ }
 {
     if !rules::has_beat(rec) {
         return stream_into(rec, 6, k, tab, room);
     }
-    let n = rules::beat_count(rec);
+    let n = rules::beat_sample_count(rec);
     let fault = with_beat(rec, k, tab, room, &mut work[..n]);
     clear(work);
     fault
@@ -140,8 +142,8 @@ fn lead_out(
 ) -> u8
     requires { ⌜ Holding (tablesOf (now rec)) (now tab) ⌝ }
     requires { ⌜ Readable (now rec) k (length (now work)) ⌝ }
-    requires { ⌜ (length (now room) ≡ countAt (now rec) k) × (countAt (now rec) k ≤ length (now out)) ⌝ }
-    ensures { λ r. ⌜ ((xs : List ℤ) × (traceOf r xs ≡ traceAt (now (rec .entry)) k)) × (now (out .exit) ≡ outAfter (traceAt (now (rec .entry)) k) (now (out .entry))) × (now (work .exit) ≡ clearedIf (hasBeat (now (rec .entry))) (now (work .entry))) ⌝ }
+    requires { ⌜ (length (now room) ≡ sampleCountAt (now rec) k) × (sampleCountAt (now rec) k ≤ length (now out)) ⌝ }
+    ensures { λ r. ⌜ ((xs : List ℤ) × (traceOf r xs ≡ traceAt (now (rec .entry)) k)) × (now (out .exit) ≡ outAfter (traceAt (now (rec .entry)) k) (now (out .entry))) × (now (work .exit) ≡ clearedIf (beatSubtracted (now (rec .entry))) (now (work .entry))) ⌝ }
 {
     let fault = lead_into(rec, k, tab, room, work);
     if fault != 0 {
@@ -154,8 +156,8 @@ fn lead_out(
 // Lead k is read by the record's tables, in room of its own.
 fn read_into(rec: &[u8], k: usize, out: &mut [i16], work: &mut [i16]) -> u8
     requires { ⌜ Readable (now rec) k (length (now work)) ⌝ }
-    requires { ⌜ countAt (now rec) k ≤ length (now out) ⌝ }
-    ensures { λ r. ⌜ ((xs : List ℤ) × (traceOf r xs ≡ traceAt (now (rec .entry)) k)) × (now (out .exit) ≡ outAfter (traceAt (now (rec .entry)) k) (now (out .entry))) × (now (work .exit) ≡ clearedIf (hasBeat (now (rec .entry))) (now (work .entry))) ⌝ }
+    requires { ⌜ sampleCountAt (now rec) k ≤ length (now out) ⌝ }
+    ensures { λ r. ⌜ ((xs : List ℤ) × (traceOf r xs ≡ traceAt (now (rec .entry)) k)) × (now (out .exit) ≡ outAfter (traceAt (now (rec .entry)) k) (now (out .entry))) × (now (work .exit) ≡ clearedIf (beatSubtracted (now (rec .entry))) (now (work .entry))) ⌝ }
 {
     let mut tab = table_room();
     let held = hold_tables(rec, &mut tab);
@@ -175,7 +177,7 @@ fn room_right(rec: &[u8], place: usize, out: usize, work: usize) -> bool
     if !rules::has_beat(rec) {
         return true;
     }
-    if work < rules::beat_count(rec) {
+    if work < rules::beat_sample_count(rec) {
         return false;
     }
     true
@@ -212,8 +214,8 @@ fn refused(refusal: u8) -> Lead
 
 // What is answered beside lead k's samples.
 fn lead_at(rec: &[u8], k: usize) -> Lead
-    requires { ⌜ (k < 256) × (countAt (now rec) k ≤ 65536) ⌝ }
-    ensures { λ r. ⌜ ((xs : List ℤ) → length xs ≡ countAt (now (rec .entry)) k → r ≡ leadOf (now (rec .entry)) k (rebuilt xs)) ⌝ }
+    requires { ⌜ (k < 256) × (sampleCountAt (now rec) k ≤ 65536) ⌝ }
+    ensures { λ r. ⌜ ((xs : List ℤ) → length xs ≡ sampleCountAt (now (rec .entry)) k → r ≡ leadOf (now (rec .entry)) k (rebuilt xs)) ⌝ }
 {
     let s = pointers::section_of(rec, 3);
     let t = pointers::section_of(rec, 6);

@@ -7,14 +7,14 @@ use native.Mathlib.Omega.{arith}
 use lib.ListN.{length, getD, take, drop, replicate, length-append, length-take, length-drop, replicate-append-replicate}
 use lib.Pow.{high, low, field, shr-shr, mod-mod-pow}
 use lib.Seq.{take-append-add}
-use Rattle.bits.specs.Bits.{highBits, bitsIn, numberAfter, numberOf}
-use Rattle.bits.proofs.Laws.{Small, small-take, small-drop, small-highBits, length-highBits, number-append, number-small, number-one, number-high}
+use Rattle.bits.specs.Bits.{highFirst, bitsIn, numberAfter, numberOf}
+use Rattle.bits.proofs.Laws.{Small, small-take, small-drop, small-highFirst, length-highFirst, number-append, number-small, number-one, number-high}
 use Rattle.bits.proofs.Windows.{zeros-behind}
 use Rattle.packing.specs.Packing.{packedIn, packed, bytesFor}
 
 -- the lowest bits of a number are those of its remainder
-pub high-low : (w m x : ℕ) → w ≤ m → highBits w (x % 2 ^ m) ≡ highBits w x
-unfolding highBits
+pub high-low : (w m x : ℕ) → w ≤ m → highFirst w (x % 2 ^ m) ≡ highFirst w x
+unfolding highFirst
 high-low zero m x h = refl
 high-low (suc w) m x h =
     let d = m - suc w in
@@ -23,8 +23,8 @@ high-low (suc w) m x h =
     ap₂ _∷_ first (high-low w m x (omega arith))
 
 -- the bits of a number are those of its upper part, and then the others
-pub high-split : (j k x : ℕ) → highBits (j + k) x ≡ highBits j (x / 2 ^ k) ++ highBits k x
-unfolding highBits
+pub high-split : (j k x : ℕ) → highFirst (j + k) x ≡ highFirst j (x / 2 ^ k) ++ highFirst k x
+unfolding highFirst
 high-split zero k x = rw (zero-add k)
 high-split (suc j) k x =
     let e : k + j ≡ j + k = omega arith in
@@ -32,18 +32,18 @@ high-split (suc j) k x =
     rw (suc-add j k) (ap₂ _∷_ first (high-split j k x))
 
 -- the bits of a number with n bits w behind it
-pub high-behind : (p n a w : ℕ) → w < 2 ^ n → highBits (p + n) (a * 2 ^ n + w) ≡ highBits p a ++ highBits n w
+pub high-behind : (p n a w : ℕ) → w < 2 ^ n → highFirst (p + n) (a * 2 ^ n + w) ≡ highFirst p a ++ highFirst n w
 high-behind p n a w h =
     let x = a * 2 ^ n + w in
-    let lower : highBits n x ≡ highBits n w = sym (high-low n n x (omega arith)) ∙ ap (highBits n) (low a n h) in
-    high-split p n x ∙ ap₂ (λ (y : ℕ) (l : List ℕ). highBits p y ++ l) (high a n h) lower
+    let lower : highFirst n x ≡ highFirst n w = sym (high-low n n x (omega arith)) ∙ ap (highFirst n) (low a n h) in
+    high-split p n x ∙ ap₂ (λ (y : ℕ) (l : List ℕ). highFirst p y ++ l) (high a n h) lower
 
 -- bits are the bits of the number that they are
-high-number : (l : List ℕ) → Small l → highBits (length l) (numberOf l) ≡ l
+high-number : (l : List ℕ) → Small l → highFirst (length l) (numberOf l) ≡ l
 high-number l h =
     let n = length l in
     let x = numberOf l in
-    number-one (highBits n x) l (small-highBits n x) h (length-highBits n x) (number-high n x (number-small l h))
+    number-one (highFirst n x) l (small-highFirst n x) h (length-highFirst n x) (number-high n x (number-small l h))
 
 -- each element of a list is a byte
 abbrev pub Bytes : List ℕ → Type 0
@@ -113,7 +113,7 @@ read-in zero [] h g = refl
 read-in zero (b ∷ bs) h g = absurd (omega arith)
 read-in (suc n) bs h g =
     let first = take 8 (bs ++ replicate 8 0) in
-    let own : highBits 8 (numberOf first) ≡ first = rw (length-first bs) at (high-number first (small-first bs h)) in
+    let own : highFirst 8 (numberOf first) ≡ first = rw (length-first bs) at (high-number first (small-first bs h)) in
     let e : 8 * suc n ≡ 8 + 8 * n = omega arith in
     let rest = read-in n (drop 8 bs) (small-drop 8 bs h) (simp length-drop (omega arith)) in
     rw (own, rest, e) (fill 8 (8 * n) 8 bs (omega arith) (omega arith))
@@ -124,10 +124,10 @@ unfolding packed
 packed-read bs h = read-in (bytesFor (length bs)) bs h (omega arith)
 
 -- a byte's bits are packed into the byte
-packed-byte : (b : ℕ) (t : List ℕ) → b < 256 → packed (highBits 8 b ++ t) ≡ b ∷ packed t
-unfolding packed packedIn highBits
+packed-byte : (b : ℕ) (t : List ℕ) → b < 256 → packed (highFirst 8 b ++ t) ≡ b ∷ packed t
+unfolding packed packedIn highFirst
 packed-byte b t h =
-    let l = highBits 8 b ++ t in
+    let l = highFirst 8 b ++ t in
     let n : bytesFor (length l) ≡ suc (bytesFor (length t)) = omega arith in
     ap (λ (k : ℕ). packedIn k l) n ∙ ap (λ (x : ℕ). x ∷ packed t) (number-high 8 b h)
 
@@ -136,7 +136,7 @@ pub packed-front : (xs t : List ℕ) → Bytes xs → packed (bitsIn xs ++ t) �
 unfolding bitsIn
 packed-front [] t h = refl
 packed-front (b ∷ xs) t h =
-    rw (append-assoc (highBits 8 b) (bitsIn xs) t, packed-byte b (bitsIn xs ++ t) (h 0), packed-front xs t (λ i. h (suc i)))
+    rw (append-assoc (highFirst 8 b) (bitsIn xs) t, packed-byte b (bitsIn xs ++ t) (h 0), packed-front xs t (λ i. h (suc i)))
 
 -- the bits of bytes are packed into the bytes
 pub packed-whole : (xs : List ℕ) → Bytes xs → packed (bitsIn xs) ≡ xs
@@ -144,12 +144,12 @@ unfolding packed packedIn
 packed-whole xs h = ap packed (sym (append-nil (bitsIn xs))) ∙ packed-front xs [] h ∙ append-nil xs
 
 -- p bits, fewer than eight, are packed into one byte, moved up in it
-pub packed-last : (p a : ℕ) → 0 < p → p < 8 → a < 2 ^ p → packed (highBits p a) ≡ a * 2 ^ (8 - p) ∷ []
+pub packed-last : (p a : ℕ) → 0 < p → p < 8 → a < 2 ^ p → packed (highFirst p a) ≡ a * 2 ^ (8 - p) ∷ []
 unfolding packed packedIn
 packed-last p a g h l =
-    let t = highBits p a in
-    let n : bytesFor (length t) ≡ 1 = rw (length-highBits p a) (omega arith) in
-    let q : 8 ≡ length t + (8 - p) = rw (length-highBits p a) (omega arith) in
+    let t = highFirst p a in
+    let n : bytesFor (length t) ≡ 1 = rw (length-highFirst p a) (omega arith) in
+    let q : 8 ≡ length t + (8 - p) = rw (length-highFirst p a) (omega arith) in
     let first : take 8 (t ++ replicate 8 0) ≡ t ++ replicate (8 - p) 0 =
     ap (λ (k : ℕ). take k (t ++ replicate 8 0)) q ∙ take-append-add t (replicate 8 0) (8 - p) ∙ rw (take-zeros (8 - p) 8 (omega arith)) in
     let x : numberOf (take 8 (t ++ replicate 8 0)) ≡ a * 2 ^ (8 - p) =

@@ -9,8 +9,8 @@ use lib.ListN.{length, take, drop, set, length-append, take-append-drop}
 use lib.Arith.{digits-lt}
 use lib.Pow.{pow-pos, pow-add, shl-lt}
 use lib.Seq.{take-suc-set, drop-set-lt, drop-drop, set-split, length-take-le}
-use Rattle.bits.specs.Bits.{highBits, bitsIn}
-use Rattle.bits.proofs.Laws.{length-highBits, length-bitsIn, bitsIn-append, digits-room}
+use Rattle.bits.specs.Bits.{highFirst, bitsIn}
+use Rattle.bits.proofs.Laws.{length-highFirst, length-bitsIn, bitsIn-append, digits-room}
 use Rattle.packing.specs.Packing.{packedIn, packed}
 use Rattle.packing.specs.InnerSink.{Holds}
 use Rattle.packing.specs.declared.Sink.{Sink}
@@ -26,15 +26,15 @@ last-room p a h l = let e : p + (8 - p) ≡ 8 = omega arith in rw e at (shl-lt p
 
 -- a byte is written: eight of the bits that are left stand in the bytes now
 pub byte-more : (out : List ℕ) (at part x b : ℕ) → at < length out → 8 ≤ part → b ≡ x / 2 ^ (part - 8) % 256
-    → bitsIn (take (at + 1) (set out at b)) ++ highBits (part - 8) x ≡ bitsIn (take at out) ++ highBits part x
+    → bitsIn (take (at + 1) (set out at b)) ++ highFirst (part - 8) x ≡ bitsIn (take at out) ++ highFirst part x
 unfolding bitsIn
 byte-more out at part x b h g e =
     let p = part - 8 in
     let whole : 8 + p ≡ part = omega arith in
-    let own : highBits 8 b ++ highBits p x ≡ highBits part x =
-    rw (e, high-low 8 8 (x / 2 ^ p) (omega arith)) (sym (high-split 8 p x) ∙ ap (λ (k : ℕ). highBits k x) whole) in
-    rw (add-one at, take-suc-set out at b h, bitsIn-append (take at out) (b ∷ []), append-nil (highBits 8 b))
-    (append-assoc (bitsIn (take at out)) (highBits 8 b) (highBits p x) ∙ ap (λ (l : List ℕ). bitsIn (take at out) ++ l) own)
+    let own : highFirst 8 b ++ highFirst p x ≡ highFirst part x =
+    rw (e, high-low 8 8 (x / 2 ^ p) (omega arith)) (sym (high-split 8 p x) ∙ ap (λ (k : ℕ). highFirst k x) whole) in
+    rw (add-one at, take-suc-set out at b h, bitsIn-append (take at out) (b ∷ []), append-nil (highFirst 8 b))
+    (append-assoc (bitsIn (take at out)) (highFirst 8 b) (highFirst p x) ∙ ap (λ (l : List ℕ). bitsIn (take at out) ++ l) own)
 
 -- what two lists have alike from a place on they have from every later place on
 pub rest-later : (n m : ℕ) (k l : List ℕ) → n ≤ m → drop n k ≡ drop n l → drop m k ≡ drop m l
@@ -50,13 +50,13 @@ byte-rest out out₀ at b e =
 
 -- no whole byte is left: the bits are those of before and the n bits of the word
 pub put-all : (out₀ out : List ℕ) (s : Sink) (at part word n x q : ℕ) (bs : List ℕ) → Holds out₀ s bs
-    → bitsIn (take at out) ++ highBits part x ≡ bitsIn (take (s .at) out₀) ++ highBits (s .part + n) x
+    → bitsIn (take at out) ++ highFirst part x ≡ bitsIn (take (s .at) out₀) ++ highFirst (s .part + n) x
     → x ≡ s .acc * 2 ^ n + word → word < 2 ^ n → q ≡ 2 ^ part → part < 8 → at ≤ length out
-    → Holds out (record { at = at; acc = x % q; part = part }) (bs ++ highBits n word)
+    → Holds out (record { at = at; acc = x % q; part = part }) (bs ++ highFirst n word)
 put-all out₀ out s at part word n x q bs h e ex hw eq hp ha = record {
   bits = rw (eq, high-low part part x (omega arith), e, ex, high-behind (s .part) n (s .acc) word hw)
-      (sym (append-assoc (bitsIn (take (s .at) out₀)) (highBits (s .part) (s .acc)) (highBits n word))
-      ∙ ap (λ (l : List ℕ). l ++ highBits n word) (h .bits));
+      (sym (append-assoc (bitsIn (take (s .at) out₀)) (highFirst (s .part) (s .acc)) (highFirst n word))
+      ∙ ap (λ (l : List ℕ). l ++ highFirst n word) (h .bits));
   part = hp;
   acc = rw eq (mod-lt x (pow-pos part));
   at = ha;
@@ -66,22 +66,22 @@ put-all out₀ out s at part word n x q bs h e ex hw eq hp ha = record {
 pub holds-length : (out : List ℕ) (s : Sink) (bs : List ℕ) → Holds out s bs → length bs ≡ s .at * 8 + s .part
 holds-length out s bs h =
     let p = take (s .at) out in
-    let t = highBits (s .part) (s .acc) in
+    let t = highFirst (s .part) (s .acc) in
     ap length (sym (h .bits))
-    ∙ rw (length-append (bitsIn p) t, length-bitsIn p, length-highBits (s .part) (s .acc), length-take-le (s .at) out (h .at))
+    ∙ rw (length-append (bitsIn p) t, length-bitsIn p, length-highFirst (s .part) (s .acc), length-take-le (s .at) out (h .at))
 
 module _ (out : List ℕ) (s : Sink) (bytes : Bytes out) (bs : List ℕ) (h : Holds out s bs) where
   -- the bytes written stand first in what all bits are packed into
-  front : packed bs ≡ take (s .at) out ++ packed (highBits (s .part) (s .acc))
+  front : packed bs ≡ take (s .at) out ++ packed (highFirst (s .part) (s .acc))
   front =
-      ap packed (sym (h .bits)) ∙ packed-front (take (s .at) out) (highBits (s .part) (s .acc)) (bytes-take (s .at) out bytes)
+      ap packed (sym (h .bits)) ∙ packed-front (take (s .at) out) (highFirst (s .part) (s .acc)) (bytes-take (s .at) out bytes)
 
   -- every bit stands in a byte
   pub end-whole : s .part ≡ 0 → out ≡ packed bs ++ drop (length (packed bs)) out
-  unfolding packed packedIn highBits
+  unfolding packed packedIn highFirst
   end-whole e =
       let p = take (s .at) out in
-      let all : packed bs ≡ p = front ∙ ap (λ (n : ℕ). p ++ packed (highBits n (s .acc))) e ∙ append-nil p in
+      let all : packed bs ≡ p = front ∙ ap (λ (n : ℕ). p ++ packed (highFirst n (s .acc))) e ∙ append-nil p in
       rw (all, length-take-le (s .at) out (h .at)) (sym (take-append-drop (s .at) out))
 
   -- the last byte is written

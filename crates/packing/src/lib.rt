@@ -3,7 +3,7 @@ ghost use mathlib.Core.Path.{_≡_};
 ghost use mathlib.Core.List.{List, [], _++_};
 ghost use Prim.Native.Nat.{ℕ, _+_, _*_, _/_, _%_, _^_, _<_, _≤_};
 ghost use lib.ListN.{length, drop};
-ghost use Rattle.bits.specs.Bits.{highBits};
+ghost use Rattle.bits.specs.Bits.{highFirst};
 ghost use Rattle.packing.specs.Packing.{packed, bytesFor};
 ghost use Rattle.packing.specs.InnerSink.{Holds};
 
@@ -37,7 +37,7 @@ impl Sink {
     pub fn put(self, out: &mut [u8], word: usize, n: usize) -> Self
         requires { ⌜ (n ≤ 32) × (word < 2 ^ n) × (self .part < 8) × (self .acc < 2 ^ self .part)
             × ((self .at * 8 + self .part + n) / 8 ≤ length (now out)) ⌝ }
-        ensures { λ r. ⌜ ((bs : List ℕ) → Holds (now (out .entry)) self bs → Holds (now (out .exit)) r (bs ++ highBits n word))
+        ensures { λ r. ⌜ ((bs : List ℕ) → Holds (now (out .entry)) self bs → Holds (now (out .exit)) r (bs ++ highFirst n word))
             × (length (now (out .exit)) ≡ length (now (out .entry)))
             × (drop (r .at) (now (out .exit)) ≡ drop (r .at) (now (out .entry)))
             × (r .at * 8 + r .part ≡ self .at * 8 + self .part + n) ⌝ }

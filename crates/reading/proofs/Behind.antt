@@ -11,8 +11,9 @@ use lib.IntN.{ℤ}
 use lib.ListN.{length, take, drop, length-append, length-drop}
 use lib.Seq.{take-append-le, drop-append-le}
 use Rattle.wire.proofs.Laws.{unlike}
+use Rattle.wire.specs.Rules.{every}
 use Rattle.tables.specs.declared.Structure.{Structure}
-use Rattle.tables.specs.Structures.{prefixOf, remainderOf, every}
+use Rattle.tables.specs.Structures.{prefixOf, remainderOf}
 use Rattle.tables.specs.Section2.{tableOf, tableRight}
 use Rattle.reading.specs.Reading.{gave, matching, valueOf, readCoded, readPlain, readNext}
 use Rattle.reading.proofs.Laws.{matched, falls, read-switch, read-value, read-none, gave-value, gave-table, gave-rest}

@@ -11,22 +11,24 @@ use lib.Dec.{leb, eqb}
 use lib.IntN.{ℤ}
 use lib.ListN.{length, getD, take, drop, length-append, length-drop, List·getD-eq-default}
 use Rattle.wire.proofs.Laws.{unlike}
-use Rattle.bits.specs.Bits.{lowBits, numberOf, signed, begins}
-use Rattle.bits.proofs.Laws.{length-lowBits, begins-split}
+use Rattle.wire.specs.Rules.{every}
+use Rattle.bits.specs.Bits.{lowFirst, numberOf, signed, begins}
+use Rattle.bits.proofs.Laws.{length-lowFirst, begins-split}
 use Rattle.tables.specs.declared.Structure.{Structure}
-use Rattle.tables.specs.Structures.{noStructure, prefixOf, remainderOf, structureRight, every}
+use Rattle.tables.specs.Structures.{prefixOf, remainderOf, structureRight}
 use Rattle.tables.specs.Section2.{tableOf, tableRight}
 use Rattle.tables.proofs.Laws.{fine, RightTable, every-at, right-at}
+use Rattle.tables.specs.InnerStructures.{noStructure}
 use Rattle.compiled.specs.InnerForm.{formOf}
 use Rattle.reading.specs.Reading.{Next, gave, stuck, matching, valueOf, afterMatch, readWithin, readCoded, readNext}
 
 -- ---- the structure that bits begin with
 
 -- p bits that begin a list are its first part, and no more than it has
-begins-parts : (p c : ℕ) (l : List ℕ) → begins (lowBits p c) l ≡ true → (l ≡ lowBits p c ++ drop p l) × (p ≤ length l)
+begins-parts : (p c : ℕ) (l : List ℕ) → begins (lowFirst p c) l ≡ true → (l ≡ lowFirst p c ++ drop p l) × (p ≤ length l)
 begins-parts p c l h =
-    let split = rw (length-lowBits p c) at (begins-split (lowBits p c) l h) in
-    (split, omega (arith, ap length split, length-lowBits p c, length-append (lowBits p c) (drop p l)))
+    let split = rw (length-lowFirst p c) at (begins-split (lowFirst p c) l h) in
+    (split, omega (arith, ap length split, length-lowFirst p c, length-append (lowFirst p c) (drop p l)))
 
 -- where a structure stands in its table, and that the bits begin with its prefix
 pub record Matched (cs : List Structure) (bs : List ℕ) (c : Structure) : Type 0 where

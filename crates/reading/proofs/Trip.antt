@@ -9,12 +9,14 @@ use borrow.Author.Tests.{eq-eqb, eqb-true}
 use lib.Dec.{eqb}
 use lib.ListN.{length, getD, drop, length-append}
 use lib.Seq.{take-at, drop-at}
-use Rattle.bits.specs.Bits.{highBits, signed, begins}
-use Rattle.bits.proofs.Laws.{length-highBits, length-lowBits, number-high, begins-append}
+use Rattle.wire.specs.Rules.{every}
+use Rattle.bits.specs.Bits.{highFirst, signed, begins}
+use Rattle.bits.proofs.Laws.{length-highFirst, length-lowFirst, number-high, begins-append}
 use Rattle.tables.specs.declared.Structure.{Structure}
-use Rattle.tables.specs.Structures.{noStructure, prefixOf, remainderOf, apart, every}
+use Rattle.tables.specs.Structures.{prefixOf, remainderOf, apart}
 use Rattle.tables.specs.Section2.{tableOf, tableRight}
 use Rattle.tables.proofs.Laws.{free-at}
+use Rattle.tables.specs.InnerStructures.{noStructure}
 use Rattle.reading.specs.Reading.{gave, matching, readCoded}
 use Rattle.reading.proofs.Laws.{table-there, read-switch, read-value, value-base, value-rest}
 
@@ -53,7 +55,7 @@ module _ (n : ℕ) (tables : List (List Structure)) (right : every (tableRight n
 
   -- what stands behind its prefix
   behind : drop (c .prefix) (prefixOf c ++ bs) ≡ bs
-  behind = drop-at (prefixOf c) bs (c .prefix) (length-lowBits (c .prefix) (c .code))
+  behind = drop-at (prefixOf c) bs (c .prefix) (length-lowFirst (c .prefix) (c .code))
 
   -- a switch's prefix carries on in the table that it leads to
   pub trip-switch : c .mode ≡ 0 → readCoded tables table (prefixOf c ++ bs) ≡ readCoded tables (c .base) bs
@@ -69,18 +71,18 @@ module _ (n : ℕ) (tables : List (List Structure)) (right : every (tableRight n
 pub trip-rest : (n : ℕ) (tables : List (List Structure)) → every (tableRight n) tables ≡ true → (table k : ℕ) (c : Structure)
     → k < length (tableOf tables table) → getD (tableOf tables table) k noStructure ≡ c → (bs : List ℕ) → (c .mode ≡ 0 → ⊥)
     → (r v : ℕ) → remainderOf c ≡ r → 0 < r → v < 2 ^ r
-    → readCoded tables table (prefixOf c ++ (highBits r v ++ bs)) ≡ gave (signed r v) table bs
+    → readCoded tables table (prefixOf c ++ (highFirst r v ++ bs)) ≡ gave (signed r v) table bs
 trip-rest n tables right table k c there stands bs m zero v e h g = absurd (omega arith)
 trip-rest n tables right table k c there stands bs m (suc w) v e h g =
     let r = suc w in
-    let l = highBits r v ++ bs in
-    let long = length-highBits r v in
+    let l = highFirst r v ++ bs in
+    let long = length-highFirst r v in
     read-value n tables right table (prefixOf c ++ l) c (matching-own n tables right table k c there stands l) m
     ∙ rw (
       behind n tables right table k c there stands l,
-      value-rest (remainderOf c) w (c .base) table l e (omega (arith, length-append (highBits r v) bs)),
+      value-rest (remainderOf c) w (c .base) table l e (omega (arith, length-append (highFirst r v) bs)),
       e,
-      take-at (highBits r v) bs r long,
-      drop-at (highBits r v) bs r long,
+      take-at (highFirst r v) bs r long,
+      drop-at (highFirst r v) bs r long,
       number-high r v g,
     )

@@ -11,15 +11,15 @@ use Rattle.record.specs.Opening.{openRefusal, opens}
 use Rattle.entries.specs.Leads.{section3Right}
 use Rattle.entries.specs.Streams.{streamsRight, section6Right}
 use Rattle.entries.specs.Beat.{section4Right}
-use Rattle.rules.specs.Rules.{tablesRight, leadsOf, hasBeat, beatCount, beatRight, rhythmRight, leadsRight, agrees, hasLead, leadRefusal}
+use Rattle.rules.specs.Rules.{tablesRight, leadCountOf, beatSubtracted, beatSampleCount, beatRight, section6Kept, sections3To6Right, agrees, hasLead, leadRefusal}
 
 pub record Sound (r : List ℕ) (place : ℕ) : Type 0 where
   pub tables : tablesRight r ≡ true
   pub leads : section3Right (sectionOf r 3) ≡ true
   pub beat : beatRight r ≡ true
-  pub streams : section6Right (leadsOf r) (sectionOf r 6) ≡ true
+  pub streams : section6Right (leadCountOf r) (sectionOf r 6) ≡ true
   pub first : 1 ≤ place
-  pub last : place ≤ leadsOf r
+  pub last : place ≤ leadCountOf r
 
 -- where refusals that stand before others answer 0 with them, both do
 pub both-passed : (first later : ℕ) → cond (eqb first 0) later first ≡ 0 → (first ≡ 0) × (later ≡ 0)
@@ -36,28 +36,28 @@ asked false c h e = unlike cc
 
 -- the lead at the place asked for is there
 there : (r : List ℕ) (place : ℕ) → hasLead r place ≡ true
-    → (present r 3 ≡ true) × (present r 6 ≡ true) × (1 ≤ place) × (place ≤ leadsOf r)
+    → (present r 3 ≡ true) × (present r 6 ≡ true) × (1 ≤ place) × (place ≤ leadCountOf r)
 unfolding hasLead
 there r place h =
     let p = and-eq-true-iff (present r 3) _ .0 h in
     let q = and-eq-true-iff (present r 6) _ .0 (p .1) in
     let w = and-eq-true-iff (leb 1 place) _ .0 (q .1) in
-    (p .0, q .0, leb-true 1 place (w .0), leb-true place (leadsOf r) (w .1))
+    (p .0, q .0, leb-true 1 place (w .0), leb-true place (leadCountOf r) (w .1))
 
 -- Sections 3 to 6 where Sections 3 and 6 are present
-judged : (r : List ℕ) → leadsRight r ≡ true → present r 3 ≡ true → present r 6 ≡ true →
-    (section3Right (sectionOf r 3) ≡ true) × (beatRight r ≡ true) × (section6Right (leadsOf r) (sectionOf r 6) ≡ true)
-unfolding leadsRight rhythmRight
+judged : (r : List ℕ) → sections3To6Right r ≡ true → present r 3 ≡ true → present r 6 ≡ true →
+    (section3Right (sectionOf r 3) ≡ true) × (beatRight r ≡ true) × (section6Right (leadCountOf r) (sectionOf r 6) ≡ true)
+unfolding sections3To6Right section6Kept
 judged r h three six =
     let p = and-eq-true-iff (section3Right (sectionOf r 3)) _ .0 (rw three at h) in
     let q = and-eq-true-iff (beatRight r) _ .0 (p .1) in
-    (p .0, q .0, asked (present r 6) (section6Right (leadsOf r) (sectionOf r 6)) (q .1) six)
+    (p .0, q .0, asked (present r 6) (section6Right (leadCountOf r) (sectionOf r 6)) (q .1) six)
 
 pub sound : (r : List ℕ) (place : ℕ) → leadRefusal r place ≡ 0 → Sound r place
 unfolding leadRefusal opens
 sound r place h =
     let a = kept-first (tablesRight r) 6 _ (both-passed (openRefusal r) _ h .1) in
-    let b = kept-first (leadsRight r) 7 _ (a .1) in
+    let b = kept-first (sections3To6Right r) 7 _ (a .1) in
     let c = kept-first (agrees r) 8 _ (b .1) in
     let d = kept-first (hasLead r place) 9 _ (c .1) in
     let t = there r place (d .0) in
@@ -65,10 +65,10 @@ sound r place h =
     record { tables = a .0; leads = j .0; beat = j .1; streams = j .2; first = t .2; last = t .3 }
 
 -- what Sections 4 and 5 keep where a beat was subtracted
-pub sound-beat : (r : List ℕ) → beatRight r ≡ true → hasBeat r ≡ true →
-    (streamsRight (leadsOf r) (sectionOf r 5) ≡ true) × (section4Right (beatCount r) (sectionOf r 4) ≡ true)
+pub sound-beat : (r : List ℕ) → beatRight r ≡ true → beatSubtracted r ≡ true →
+    (streamsRight (leadCountOf r) (sectionOf r 5) ≡ true) × (section4Right (beatSampleCount r) (sectionOf r 4) ≡ true)
 unfolding beatRight
 sound-beat r h e =
-    let p = and-eq-true-iff (present r 4) _ .0 (asked (hasBeat r) _ h e) in
+    let p = and-eq-true-iff (present r 4) _ .0 (asked (beatSubtracted r) _ h e) in
     let q = and-eq-true-iff (present r 5) _ .0 (p .1) in
-    and-eq-true-iff (streamsRight (leadsOf r) (sectionOf r 5)) _ .0 (q .1)
+    and-eq-true-iff (streamsRight (leadCountOf r) (sectionOf r 5)) _ .0 (q .1)

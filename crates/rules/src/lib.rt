@@ -5,8 +5,8 @@ ghost use Prim.Native.Nat.{_<_, _≤_};
 ghost use Rattle.wire.specs.Numbers.{numberAt};
 ghost use Rattle.pointers.specs.Pointers.{sectionOf};
 ghost use Rattle.entries.specs.Streams.{intervalOf};
-ghost use Rattle.rules.specs.Breaks.{keeps};
-ghost use Rattle.rules.specs.Rules.{tablesRight, leadsOf, hasBeat, beatCount, beatRight, rhythmRight, leadsRight, stepsAgree, agrees, hasLead, leadRefusal};
+ghost use Rattle.rules.specs.Rows.{rowKept};
+ghost use Rattle.rules.specs.Rules.{tablesRight, leadCountOf, beatSubtracted, beatSampleCount, beatRight, section6Kept, sections3To6Right, stepsAgree, agrees, hasLead, leadRefusal};
 
 // 7: Section 2 is absent or keeps its rule.
 pub fn tables_right(rec: &[u8]) -> bool
@@ -20,14 +20,14 @@ pub fn tables_right(rec: &[u8]) -> bool
 
 // How many leads Section 3 says.
 pub fn leads_of(rec: &[u8]) -> usize
-    ensures { λ r. ⌜ (r ≡ leadsOf (now (rec .entry))) × (r < 256) ⌝ }
+    ensures { λ r. ⌜ (r ≡ leadCountOf (now (rec .entry))) × (r < 256) ⌝ }
 {
     wire::byte(pointers::section_of(rec, 3), 16)
 }
 
 // A reference beat was subtracted.
 pub fn has_beat(rec: &[u8]) -> bool
-    ensures { λ r. ⌜ r ≡ hasBeat (now (rec .entry)) ⌝ }
+    ensures { λ r. ⌜ r ≡ beatSubtracted (now (rec .entry)) ⌝ }
 {
     if !pointers::is_present(rec, 3) {
         return false;
@@ -39,18 +39,18 @@ pub fn has_beat(rec: &[u8]) -> bool
 }
 
 // How many samples the beat has.
-pub fn beat_count(rec: &[u8]) -> usize
+pub fn beat_sample_count(rec: &[u8]) -> usize
     requires { ⌜ 0 < intervalOf (sectionOf (now rec) 5) ⌝ }
-    ensures { λ r. ⌜ (r ≡ beatCount (now (rec .entry))) × (r ≤ 65535000) ⌝ }
+    ensures { λ r. ⌜ (r ≡ beatSampleCount (now (rec .entry))) × (r ≤ 65535000) ⌝ }
 {
     let ms = wire::number16(pointers::section_of(rec, 4), 16);
     let interval = wire::number16(pointers::section_of(rec, 5), 18);
-    entries::beat_samples(ms, interval)
+    entries::samples_in_beat(ms, interval)
 }
 
 // Sections 4 and 5, where a beat was subtracted from the n leads.
 fn beat_right(rec: &[u8], n: usize) -> bool
-    requires { ⌜ (n ≡ leadsOf (now rec)) × (n ≤ 32) ⌝ }
+    requires { ⌜ (n ≡ leadCountOf (now rec)) × (n ≤ 32) ⌝ }
     ensures { λ r. ⌜ r ≡ beatRight (now (rec .entry)) ⌝ }
 {
     if !has_beat(rec) {
@@ -65,13 +65,13 @@ fn beat_right(rec: &[u8], n: usize) -> bool
     if !entries::streams_right(pointers::section_of(rec, 5), n) {
         return false;
     }
-    entries::section4_right(pointers::section_of(rec, 4), beat_count(rec))
+    entries::section4_right(pointers::section_of(rec, 4), beat_sample_count(rec))
 }
 
 // Section 6, if it is present, for n leads.
 fn rhythm_right(rec: &[u8], n: usize) -> bool
-    requires { ⌜ (n ≡ leadsOf (now rec)) × (n ≤ 32) ⌝ }
-    ensures { λ r. ⌜ r ≡ rhythmRight (now (rec .entry)) ⌝ }
+    requires { ⌜ (n ≡ leadCountOf (now rec)) × (n ≤ 32) ⌝ }
+    ensures { λ r. ⌜ r ≡ section6Kept (now (rec .entry)) ⌝ }
 {
     if !pointers::is_present(rec, 6) {
         return true;
@@ -81,7 +81,7 @@ fn rhythm_right(rec: &[u8], n: usize) -> bool
 
 // 8: Sections 3 to 6 keep their rules.
 pub fn leads_right(rec: &[u8]) -> bool
-    ensures { λ r. ⌜ r ≡ leadsRight (now (rec .entry)) ⌝ }
+    ensures { λ r. ⌜ r ≡ sections3To6Right (now (rec .entry)) ⌝ }
 {
     if !pointers::is_present(rec, 3) {
         if pointers::is_present(rec, 6) {
@@ -179,8 +179,8 @@ pub fn lead_refusal(rec: &[u8], place: usize) -> u8
 }
 
 // The rule of a row from 1 to 9 is kept, asked alone.
-pub fn keeps(rec: &[u8], row: u8) -> bool
-    ensures { λ r. ⌜ r ≡ keeps (now (rec .entry)) row ⌝ }
+pub fn row_kept(rec: &[u8], row: u8) -> bool
+    ensures { λ r. ⌜ r ≡ rowKept (now (rec .entry)) row ⌝ }
 {
     if row == 1 {
         return record::length_right(rec);

@@ -1,5 +1,5 @@
 -- A trace (01, Leads and samples; 01, Refusal numbers): the samples rebuilt, or a refusal number.
-use Prim.Native.Nat.{ℕ, zero, suc}
+use Prim.Native.Nat.{ℕ}
 use mathlib.Core.Bool.{Bool, cond}
 use mathlib.Core.List.{List, _∷_}
 use lib.Dec.{ltb}
@@ -27,9 +27,3 @@ afterSample goOn x = cond (fits16 x) (behind x (goOn x)) (fault 13)
 abbrev pub afterTrace : (List ℤ → Trace) → Trace → Trace
 afterTrace goOn (rebuilt xs) = goOn xs
 afterTrace goOn (fault number) = fault number
-
--- the trace that an answer means, which has a number and samples beside it: with the number 0 these are rebuilt; any other
--- number is a fault, whatever the samples are
-abbrev pub traceOf : ℕ → List ℤ → Trace
-traceOf zero xs = rebuilt xs
-traceOf (suc n) xs = fault (suc n)

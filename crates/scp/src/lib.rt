@@ -1,5 +1,5 @@
 // The C boundary: each call passes on a chapter's call, on numbers and slices, with that call's contract and no `requires`.
-// A refusal is 01's number; with one, every other field is 0 and no lent element is changed.
+// A refusal is 01's number; with one, every other field is 0 and no lent element is changed but the work space's, which is zeros once used.
 ghost use mathlib.Core.Path.{_≡_};
 ghost use mathlib.Core.Bool.{not};
 ghost use lib.ListN.{length};
@@ -8,7 +8,7 @@ ghost use Rattle.header.specs.Fields.{stepAt};
 ghost use Rattle.record.specs.Opening.{openRefusal, openCount, openNumbers};
 ghost use Rattle.fields.specs.Lookup.{fieldPlace, walkPlace};
 ghost use Rattle.fields.specs.Identifier.{same};
-ghost use Rattle.rules.specs.Breaks.{keeps};
+ghost use Rattle.rules.specs.Rows.{rowKept};
 ghost use Rattle.leads.specs.Leads.{readTrace};
 ghost use Rattle.leads.specs.Answers.{leadAnswer, outAfter, workAfter, entryAnswer};
 ghost use Rattle.encode.specs.Encoding.{Encoded};
@@ -105,7 +105,7 @@ pub extern "C" fn scp_same_identifier(a: &[u8], b: &[u8]) -> u8
     0
 }
 
-// Section 1, over which the fields are walked.
+// Section 1, over which the fields are walked: the first step is at place 16 of it.
 #[no_mangle]
 pub extern "C" fn scp_walk_start(rec: &[u8]) -> ScpPart
     ensures { λ r. ⌜ r ≡ partAt (walkPlace (now (rec .entry))) ⌝ }
@@ -144,7 +144,8 @@ pub extern "C" fn scp_walk_step(section: &[u8], at: usize) -> ScpStep
 #[no_mangle]
 pub extern "C" fn scp_read_lead(rec: &[u8], place: usize, out: &mut [i16], work: &mut [i16]) -> Lead
     ensures answer { λ r. ⌜ r ≡ leadAnswer (now (rec .entry)) place (length (now (out .entry))) (length (now (work .entry))) ⌝ }
-    ensures samples { λ r. ⌜ now (out .exit) ≡ outAfter (readTrace (now (rec .entry)) place (length (now (out .entry))) (length (now (work .entry)))) (now (out .entry)) ⌝ }
+    ensures samples { λ r. ⌜ now (out .exit)
+        ≡ outAfter (readTrace (now (rec .entry)) place (length (now (out .entry))) (length (now (work .entry)))) (now (out .entry)) ⌝ }
     ensures cleared { λ r. ⌜ now (work .exit) ≡ workAfter (now (rec .entry)) place (length (now (out .entry))) (now (work .entry)) ⌝ }
 {
     leads::read_lead(rec, place, out, work)
@@ -161,9 +162,9 @@ pub extern "C" fn scp_lead(rec: &[u8], place: usize) -> Entry
 // The rule of a row from 1 to 9 is broken, asked alone: 1, else 0.
 #[no_mangle]
 pub extern "C" fn scp_breaks(rec: &[u8], row: u8) -> u8
-    ensures { λ r. ⌜ r ≡ oneIf (not (keeps (now (rec .entry)) row)) ⌝ }
+    ensures { λ r. ⌜ r ≡ oneIf (not (rowKept (now (rec .entry)) row)) ⌝ }
 {
-    if rules::keeps(rec, row) {
+    if rules::row_kept(rec, row) {
         return 0;
     }
     1
@@ -178,7 +179,8 @@ pub extern "C" fn scp_encode_lead(
     work: &mut [u8],
     out: &mut [u8],
 ) -> Coded
-    ensures { λ r. ⌜ Encoded (now (section2 .entry)) (now (samples .entry)) order (now (work .entry)) (now (out .entry)) r (now (work .exit)) (now (out .exit)) ⌝ }
+    ensures { λ r. ⌜ Encoded (now (section2 .entry)) (now (samples .entry)) order (now (work .entry)) (now (out .entry))
+        r (now (work .exit)) (now (out .exit)) ⌝ }
 {
     encode::encode_lead(section2, samples, order as usize, work, out)
 }
@@ -201,7 +203,11 @@ pub extern "C" fn scp_write_record(
     work: &mut [u8],
     out: &mut [u8],
 ) -> Written
-    ensures { λ r. ⌜ Wrote (jobOf (now (section1 .entry)) (now (section2 .entry)) (record { version = version; flags = flags; step = step; interval = interval; order = order }) (now (firsts .entry)) (now (counts .entry)) (now (ids .entry)) (now (samples .entry))) (now (work .entry)) (now (out .entry)) r (now (work .exit)) (now (out .exit)) ⌝ }
+    ensures { λ r. ⌜ Wrote
+        (jobOf (now (section1 .entry)) (now (section2 .entry))
+        (record { version = version; flags = flags; step = step; interval = interval; order = order })
+        (now (firsts .entry)) (now (counts .entry)) (now (ids .entry)) (now (samples .entry)))
+        (now (work .entry)) (now (out .entry)) r (now (work .exit)) (now (out .exit)) ⌝ }
 {
     let head = Head {
         version,

@@ -14,10 +14,11 @@ use lib.ListN.{length, take, drop, length-append, take-append-drop}
 use lib.Seq.{length-take-le}
 use lib.Signed.{mag}
 use Rattle.wire.proofs.Laws.{unlike}
-use Rattle.bits.specs.Bits.{highBits, numberOf, signed}
-use Rattle.bits.proofs.Laws.{Small, length-highBits, length-lowBits, small-append, small-behind, small-take, small-drop, small-highBits, small-lowBits, number-small, own-bits}
+use Rattle.wire.specs.Rules.{every}
+use Rattle.bits.specs.Bits.{highFirst, numberOf, signed}
+use Rattle.bits.proofs.Laws.{Small, length-highFirst, length-lowFirst, small-append, small-behind, small-take, small-drop, small-highFirst, small-lowFirst, number-small, own-bits}
 use Rattle.tables.specs.declared.Structure.{Structure}
-use Rattle.tables.specs.Structures.{prefixOf, remainderOf, every}
+use Rattle.tables.specs.Structures.{prefixOf, remainderOf}
 use Rattle.tables.specs.Section2.{tableOf, tableRight}
 use Rattle.tables.proofs.Laws.{Fine, fine}
 use Rattle.reading.specs.Reading.{gave, stuck, matching, valueOf, readCoded, readNext}
@@ -45,10 +46,10 @@ small-word : (c : Structure) (v : ℤ) → Small (wordOf c v)
 unfolding wordOf
 small-word c v =
     let r = remainderOf c in
-    small-append (prefixOf c) (highBits r (twos r v)) (small-lowBits (c .prefix) (c .code)) (small-highBits r (twos r v))
+    small-append (prefixOf c) (highFirst r (twos r v)) (small-lowFirst (c .prefix) (c .code)) (small-highFirst r (twos r v))
 
-no-bits : (n : ℕ) → highBits 0 n ≡ []
-unfolding highBits
+no-bits : (n : ℕ) → highFirst 0 n ≡ []
+unfolding highFirst
 no-bits n = refl
 
 -- without a remainder the word is the prefix
@@ -58,7 +59,7 @@ word-prefix c v e = rw (e, no-bits (twos 0 v)) (append-nil (prefixOf c))
 
 pub length-word : (c : Structure) (v : ℤ) → length (wordOf c v) ≡ c .prefix + remainderOf c
 unfolding wordOf
-length-word c v = simp (length-append, length-lowBits, length-highBits)
+length-word c v = simp (length-append, length-lowFirst, length-highFirst)
 
 -- what stands in the table
 module _ (n : ℕ) (tables : List (List Structure)) (right : every (tableRight n) tables ≡ true) (t k : ℕ)
@@ -83,7 +84,7 @@ module _ (n : ℕ) (tables : List (List Structure)) (right : every (tableRight n
           ∙ ap (λ (x : ℤ). gave x t bs) (equal-true (signed 16 (c .base)) v s)
       go c stands m (suc w) er s =
           let r = suc w in
-          rw (er, append-assoc (prefixOf c) (highBits r (twos r v)) bs)
+          rw (er, append-assoc (prefixOf c) (highFirst r (twos r v)) bs)
           (trip-rest n tables right t k c hk stands bs m r (twos r v) er (omega arith) (twos-small r v)
           ∙ ap (λ (x : ℤ). gave x t bs) (signed-twos w v (ltb-true (mag v) (2 ^ w) s)))
 
@@ -102,7 +103,7 @@ module _ (n : ℕ) (tables : List (List Structure)) (right : every (tableRight n
 record ReadValue (r base t : ℕ) (bs : List ℕ) (v : ℤ) (next : ℕ) (rest : List ℕ) : Type 0 where
   pub table : t ≡ next
   pub serve : serves r base v ≡ true
-  pub bits : bs ≡ highBits r (twos r v) ++ rest
+  pub bits : bs ≡ highFirst r (twos r v) ++ rest
 
 read-value-bits : (r base t : ℕ) (bs : List ℕ) (v : ℤ) (next : ℕ) (rest : List ℕ) → Small bs → valueOf r base t bs ≡ gave v next rest
     → ReadValue r base t bs v next rest
@@ -154,10 +155,10 @@ module _ (n : ℕ) (tables : List (List Structure)) (right : every (tableRight n
       let sd = small-drop (c .prefix) bs small in
       let g = read-value-bits r (c .base) t (drop (c .prefix) bs) v next rest sd h in
       let whole : wordOf c v ++ rest ≡ bs =
-      append-assoc (prefixOf c) (highBits r (twos r v)) rest ∙ ap (λ (l : List ℕ). prefixOf c ++ l) (sym (g .bits)) ∙ sym parts in
+      append-assoc (prefixOf c) (highFirst r (twos r v)) rest ∙ ap (λ (l : List ℕ). prefixOf c ++ l) (sym (g .bits)) ∙ sym parts in
       let kind = kind-value c v m (g .serve) in
       record {
-        small = small-behind (highBits r (twos r v)) rest (rw (g .bits) at sd);
+        small = small-behind (highFirst r (twos r v)) rest (rw (g .bits) at sd);
         word = wordOf c v;
         whole = whole;
         again = λ more. rw (← g .table) (read-word n tables right t k hk v more kind);

@@ -11,11 +11,11 @@ use lib.IntN.{ℤ, pos}
 use lib.ListN.{length, getD, replicate, getD-replicate}
 use lib.Pow.{pow-mono}
 use lib.Signed.{mag}
-use Rattle.wire.specs.Rules.{allIn}
+use Rattle.wire.specs.Rules.{allIn, every}
 use Rattle.wire.proofs.Laws.{all-at}
 use Rattle.bits.specs.Bits.{signed}
 use Rattle.tables.specs.declared.Structure.{Structure}
-use Rattle.tables.specs.Structures.{remainderOf, every}
+use Rattle.tables.specs.Structures.{remainderOf}
 use Rattle.tables.specs.Section2.{tableRight}
 use Rattle.paths.specs.InnerPaths.{Codes, There, Sound, Reads, done, value, switch, cost, Closed}
 use Rattle.paths.proofs.Optimal.{lower}

@@ -7,10 +7,10 @@ use native.Mathlib.Omega.{arith}
 use lib.IntN.{ℤ}
 use lib.ListN.{length}
 use Rattle.wire.specs.Numbers.{bytesOf}
+use Rattle.wire.specs.Rules.{every}
 use Rattle.bits.specs.Bits.{bitsIn}
 use Rattle.bits.proofs.Laws.{Small, small-behind}
 use Rattle.tables.specs.declared.Structure.{Structure}
-use Rattle.tables.specs.Structures.{every}
 use Rattle.tables.specs.Section2.{tableRight}
 use Rattle.reading.specs.Reading.{gave, readNext}
 use Rattle.shortest.specs.InnerRule.{twos}

@@ -15,13 +15,14 @@ use lib.ListN.{length}
 use lib.Pow.{pow-pos, pow-mono, pow-add, split, shl-lt}
 use lib.Signed.{mag}
 use Rattle.wire.proofs.Laws.{unlike}
-use Rattle.bits.specs.Bits.{highBits, numberAfter, numberOf, signed, begins}
+use Rattle.wire.specs.Rules.{every}
+use Rattle.bits.specs.Bits.{highFirst, numberAfter, numberOf, signed, begins}
 use Rattle.bits.specs.InnerRaised.{lower}
 use Rattle.bits.specs.InnerWindow.{turned}
-use Rattle.bits.proofs.Laws.{Small, length-lowBits, small-lowBits, number-after, number-small, own-bits}
+use Rattle.bits.proofs.Laws.{Small, length-lowFirst, small-lowFirst, number-after, number-small, own-bits}
 use Rattle.bits.proofs.Raised.{lower-one, mag-inside, mag-outside}
 use Rattle.tables.specs.declared.Structure.{Structure}
-use Rattle.tables.specs.Structures.{prefixOf, remainderOf, structureRight, apart, every}
+use Rattle.tables.specs.Structures.{prefixOf, remainderOf, structureRight, apart}
 use Rattle.tables.specs.Section2.{tableOf, tableRight}
 use Rattle.tables.proofs.Laws.{fine, free-at}
 use Rattle.compiled.specs.declared.Form.{Form}
@@ -133,13 +134,13 @@ module _ (n : ℕ) (c : Structure) (right : structureRight n c ≡ true) (small 
       (serves-outside (remainderOf c) (c .base) x (omega (arith, ok .rest)) small (rw (v .1, v .2) at o))
 
   -- its code word, and how long that is
-  pub form-word : wordOf c (lower 131072 x) ≡ highBits (f .prefix) (f .word) ++ highBits (f .remainder) (x % 2 ^ f .remainder)
+  pub form-word : wordOf c (lower 131072 x) ≡ highFirst (f .prefix) (f .word) ++ highFirst (f .remainder) (x % 2 ^ f .remainder)
   unfolding formOf wordOf turned
   form-word =
       let ok = fine n c right in
-      let own = own-bits (prefixOf c) (c .prefix) (small-lowBits (c .prefix) (c .code)) (length-lowBits (c .prefix) (c .code)) in
+      let own = own-bits (prefixOf c) (c .prefix) (small-lowFirst (c .prefix) (c .code)) (length-lowFirst (c .prefix) (c .code)) in
       rw (← form) (ap₂ (λ (p r : List ℕ). p ++ r) (sym own)
-      (ap (highBits (remainderOf c)) (twos-lower (remainderOf c) x (omega (arith, ok .rest)))))
+      (ap (highFirst (remainderOf c)) (twos-lower (remainderOf c) x (omega (arith, ok .rest)))))
 
   pub form-length : length (wordOf c (lower 131072 x)) ≡ f .prefix + f .remainder
   unfolding formOf
@@ -212,7 +213,7 @@ rankOf f = f .word * 2 ^ (32 - f .prefix)
 
 rank-moved : (c : Structure) → rankOf (formOf c) ≡ moved 32 (prefixOf c)
 unfolding formOf turned
-rank-moved c = rw (length-lowBits (c .prefix) (c .code))
+rank-moved c = rw (length-lowFirst (c .prefix) (c .code))
 
 both-not : (a b : Bool) → not a && not b ≡ true → (a ≡ false) × (b ≡ false)
 both-not true b h = unlike cc
@@ -250,10 +251,10 @@ module _ (n : ℕ) (tables : List (List Structure)) (right : every (tableRight n
   rank-less b =
       let c = structureOf tables t j in
       let d = structureOf tables t k in
-      let lc = length-lowBits (c .prefix) (c .code) in
-      let ld = length-lowBits (d .prefix) (d .code) in
+      let lc = length-lowFirst (c .prefix) (c .code) in
+      let ld = length-lowFirst (d .prefix) (d .code) in
       rw (rank-moved c, rank-moved d)
-      (before-moved 32 b (small-lowBits (c .prefix) (c .code)) (small-lowBits (d .prefix) (d .code))
+      (before-moved 32 b (small-lowFirst (c .prefix) (c .code)) (small-lowFirst (d .prefix) (d .code))
       (omega (arith, structure-fine n tables right t j hj .most)) (omega (arith, structure-fine n tables right t k hk .most)))
 
   before-words : Before (prefixOf (structureOf tables t j)) (prefixOf (structureOf tables t k)) → (v : ℤ)

@@ -11,10 +11,11 @@ use lib.IntN.{ℤ, pos, negsuc}
 use lib.Pow.{pow-pos}
 use lib.Signed.{mag}
 pub use Rattle.wire.proofs.Laws.{unlike}
+use Rattle.wire.specs.Rules.{every}
 use Rattle.bits.specs.Bits.{signed}
 use Rattle.bits.proofs.Laws.{Small}
 use Rattle.tables.specs.declared.Structure.{Structure}
-use Rattle.tables.specs.Structures.{remainderOf, every}
+use Rattle.tables.specs.Structures.{remainderOf}
 use Rattle.reading.specs.Reading.{gave, readNext}
 use Rattle.paths.specs.InnerPaths.{dead, gives, leads}
 use Rattle.shortest.specs.Shortest.{areBits, ReadsTo, done, value}

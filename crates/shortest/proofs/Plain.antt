@@ -15,8 +15,8 @@ use lib.Seq.{take-at, drop-at, drop-drop, length-take-le, take-suc}
 use lib.Signed.{mag}
 use Rattle.wire.specs.Numbers.{bytesOf}
 use Rattle.wire.proofs.Laws.{unlike}
-use Rattle.bits.specs.Bits.{highBits, bitsIn, numberOf, signed}
-use Rattle.bits.proofs.Laws.{Small, length-highBits, bitsIn-append, small-behind, small-take, small-drop, small-bitsIn, number-small, number-high, own-bits}
+use Rattle.bits.specs.Bits.{highFirst, bitsIn, numberOf, signed}
+use Rattle.bits.proofs.Laws.{Small, length-highFirst, bitsIn-append, small-behind, small-take, small-drop, small-bitsIn, number-small, number-high, own-bits}
 use Rattle.reading.specs.Reading.{gave, stuck, readPlain, readNext}
 use Rattle.reading.proofs.Laws.{gave-value, gave-table, gave-rest}
 use Rattle.shortest.specs.Shortest.{ReadsTo, done, value, Shortest, NoStream}
@@ -26,19 +26,19 @@ use Rattle.shortest.proofs.Laws.{twos-small, signed-twos, twos-signed, 
 -- ---- one value
 
 -- the bits of a number in two bytes
-two-bytes : (x : ℕ) → bitsIn (bytesOf 2 x) ≡ highBits 8 (x % 256) ++ highBits 8 (x / 256 % 256)
+two-bytes : (x : ℕ) → bitsIn (bytesOf 2 x) ≡ highFirst 8 (x % 256) ++ highFirst 8 (x / 256 % 256)
 unfolding bitsIn bytesOf
-two-bytes x = rw (append-nil (highBits 8 (x / 256 % 256)))
+two-bytes x = rw (append-nil (highFirst 8 (x / 256 % 256)))
 
 -- they are read to the value
 pub plain-read : (t : ℕ) (v : ℤ) (bs : List ℕ) → mag v < 32768 → readPlain t (bitsIn (bytesOf 2 (twos 16 v)) ++ bs) ≡ gave v t bs
 unfolding readPlain
 plain-read t v bs h =
     let x = twos 16 v in
-    let a = highBits 8 (x % 256) in
-    let b = highBits 8 (x / 256 % 256) in
-    let la : length a ≡ 8 = length-highBits 8 (x % 256) in
-    let lb : length b ≡ 8 = length-highBits 8 (x / 256 % 256) in
+    let a = highFirst 8 (x % 256) in
+    let b = highFirst 8 (x / 256 % 256) in
+    let la : length a ≡ 8 = length-highFirst 8 (x % 256) in
+    let lb : length b ≡ 8 = length-highFirst 8 (x / 256 % 256) in
     let na : numberOf a ≡ x % 256 = number-high 8 (x % 256) (omega arith) in
     let nb : numberOf b ≡ x / 256 % 256 = number-high 8 (x / 256 % 256) (omega arith) in
     let whole : x % 256 + x / 256 % 256 * 256 ≡ x = omega (arith, twos-small 16 v) in

@@ -7,10 +7,11 @@ use lib.IntN.{ℤ, pos, negsuc}
 use lib.ListN.{length, getD}
 use lib.Signed.{mag}
 use Rattle.wire.specs.Numbers.{bytesOf}
-use Rattle.bits.specs.Bits.{highBits, bitsIn, signed}
+use Rattle.bits.specs.Bits.{highFirst, bitsIn, signed}
 use Rattle.tables.specs.declared.Structure.{Structure}
-use Rattle.tables.specs.Structures.{noStructure, prefixOf, remainderOf}
+use Rattle.tables.specs.Structures.{prefixOf, remainderOf}
 use Rattle.tables.specs.Section2.{tableOf}
+use Rattle.tables.specs.InnerStructures.{noStructure}
 use Rattle.paths.specs.InnerPaths.{Kind, dead, gives, leads, Codes}
 
 -- the number that the w bits of a whole number in two's complement are without a sign
@@ -39,7 +40,7 @@ unfoldable pub kindOf : Structure → ℤ → Kind
 kindOf c v = cond (eqb (c .mode) 0) (leads (c .base)) (cond (serves (remainderOf c) (c .base) v) gives dead)
 
 unfoldable pub wordOf : Structure → ℤ → List ℕ
-wordOf c v = prefixOf c ++ highBits (remainderOf c) (twos (remainderOf c) v)
+wordOf c v = prefixOf c ++ highFirst (remainderOf c) (twos (remainderOf c) v)
 
 -- structure k of table t
 abbrev pub structureOf : List (List Structure) → ℕ → ℕ → Structure

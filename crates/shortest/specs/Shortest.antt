@@ -11,8 +11,8 @@ use mathlib.Core.Logic.{_⊎_}
 use lib.Dec.{ltb}
 use lib.IntN.{ℤ}
 use lib.ListN.{length}
+use Rattle.wire.specs.Rules.{every}
 use Rattle.tables.specs.declared.Structure.{Structure}
-use Rattle.tables.specs.Structures.{every}
 use Rattle.reading.specs.Reading.{gave, readNext}
 use Rattle.paths.specs.Before.{Before}
 

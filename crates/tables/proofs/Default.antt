@@ -5,11 +5,13 @@ use mathlib.Core.Path.{_≡_, refl, sym, ap, _∙_}
 use mathlib.Core.Bool.{true}
 use mathlib.Core.List.{List, [], _∷_, _++_, map}
 use lib.ListN.{getD, List·getD-map}
-use Rattle.bits.specs.Bits.{lowBits, begins}
-use Rattle.tables.specs.Structures.{noStructure, prefixOf, modeRight, structureRight, apart, every, prefixFree}
+use Rattle.wire.specs.Rules.{every}
+use Rattle.bits.specs.Bits.{lowFirst, begins}
+use Rattle.tables.specs.Structures.{prefixOf, modeRight, structureRight, apart, prefixFree}
 use Rattle.tables.specs.Default.{defaultTable, twoValues, valued, ones, codeOf}
 use Rattle.tables.specs.Section2.{tableRight}
 use Rattle.tables.proofs.Laws.{table-right, free-at}
+use Rattle.tables.specs.InnerStructures.{noStructure}
 
 -- the runs of k ones: then `00`, and then `01`
 abbrev pub twoRuns : ℕ → List (List ℕ)
@@ -28,7 +30,7 @@ runs =
 
 -- the test
 passes : (tableRight 1 defaultTable ≡ true) × (map prefixOf defaultTable ≡ runs)
-unfolding tableRight every structureRight modeRight prefixFree apart begins lowBits defaultTable twoValues valued ones codeOf runs
+unfolding tableRight every structureRight modeRight prefixFree apart begins lowFirst defaultTable twoValues valued ones codeOf runs
 passes = (refl, refl)
 
 -- 19 structures, each by its rule, and no prefix that begins another
@@ -42,5 +44,5 @@ default-free = free-at defaultTable (table-right 1 defaultTable default-right .f
 
 -- the run of ones at each place
 pub default-run : (k : ℕ) → prefixOf (getD defaultTable k noStructure) ≡ getD runs k []
-unfolding lowBits
+unfolding lowFirst
 default-run k = sym (List·getD-map prefixOf defaultTable k noStructure) ∙ ap (λ (l : List (List ℕ)). getD l k []) (passes .1)

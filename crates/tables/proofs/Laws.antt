@@ -10,11 +10,13 @@ use lib.ListN.{length, getD}
 use borrow.Author.Tests.{leb-true, ltb-true, eqb-true, eqb-false, eq-eqb, ne-eqb}
 use Rattle.wire.specs.Numbers.{numberAt}
 use Rattle.wire.proofs.Laws.{unlike}
-use Rattle.bits.specs.Bits.{lowBits, begins}
+use Rattle.wire.specs.Rules.{every}
+use Rattle.bits.specs.Bits.{lowFirst, begins}
 use Rattle.tables.specs.declared.Structure.{Structure}
-use Rattle.tables.specs.Structures.{noStructure, structureAt, structuresAt, remainderOf, modeRight}
-use Rattle.tables.specs.Structures.{structureRight, apart, every, prefixFree}
+use Rattle.tables.specs.Structures.{structureAt, structuresAt, remainderOf, modeRight}
+use Rattle.tables.specs.Structures.{structureRight, apart, prefixFree}
 use Rattle.tables.specs.Section2.{isDefault, tableCount, tableAt, afterTable, tablesFrom, afterTables, tableRight, section2Right}
+use Rattle.tables.specs.InnerStructures.{noStructure}
 
 -- the part that a test picks holds where the rule holds
 either : (t a b : Bool) → cond t a b ≡ true → ((t ≡ true) × (a ≡ true)) ⊎ ((t ≡ false) × (b ≡ true))
@@ -103,13 +105,13 @@ after-none s o n h = let e : n ≡ 0 = omega arith in ap (afterTables s o) e
 
 -- neither number's lowest bits, p of x and q of y, begin the other's
 abbrev pub bitsApart : ℕ → ℕ → ℕ → ℕ → Bool
-bitsApart p q x y = not (begins (lowBits p x) (lowBits q y)) && not (begins (lowBits q y) (lowBits p x))
+bitsApart p q x y = not (begins (lowFirst p x) (lowFirst q y)) && not (begins (lowFirst q y) (lowFirst p x))
 
 -- after k bits that are the same
 module _ (p q k x y : ℕ) where
   -- the next bits differ
   pub bits-differ : k < p → k < q → (x % 2 ≡ y % 2 → ⊥) → bitsApart (p - k) (q - k) x y ≡ true
-  unfolding lowBits begins
+  unfolding lowFirst begins
   bits-differ hp hq n =
       let ep : p - k ≡ suc (p - (k + 1)) = omega arith in
       let eq : q - k ≡ suc (q - (k + 1)) = omega arith in
@@ -117,7 +119,7 @@ module _ (p q k x y : ℕ) where
 
   -- the next bits are the same, so the others decide
   pub bits-same : k < p → k < q → x % 2 ≡ y % 2 → bitsApart (p - k) (q - k) x y ≡ bitsApart (p - (k + 1)) (q - (k + 1)) (x / 2) (y / 2)
-  unfolding lowBits begins
+  unfolding lowFirst begins
   bits-same hp hq e =
       let ep : p - k ≡ suc (p - (k + 1)) = omega arith in
       let eq : q - k ≡ suc (q - (k + 1)) = omega arith in
@@ -125,13 +127,13 @@ module _ (p q k x y : ℕ) where
 
   -- no bit is left of the first
   pub bits-first : p ≤ k → bitsApart (p - k) (q - k) x y ≡ false
-  unfolding lowBits begins
+  unfolding lowFirst begins
   bits-first h = let e : p - k ≡ 0 = omega arith in rw e
 
   -- no bit is left of the second
   pub bits-second : q ≤ k → bitsApart (p - k) (q - k) x y ≡ false
-  unfolding lowBits begins
-  bits-second h = let e : q - k ≡ 0 = omega arith in rw e (and-false (not (begins (lowBits (p - k) x) [])))
+  unfolding lowFirst begins
+  bits-second h = let e : q - k ≡ 0 = omega arith in rw e (and-false (not (begins (lowFirst (p - k) x) [])))
 
 -- no prefix begins another: any two places
 pub free-at : (cs : List Structure) → prefixFree cs ≡ true → (j k : ℕ) → j < k → k < length cs

@@ -1,3 +1,4 @@
 pub mod Structures
 pub mod Default
 pub mod Section2
+pub mod InnerStructures

@@ -6,9 +6,9 @@ use mathlib.Core.List.{List, [], _∷_}
 use lib.Dec.{leb, eqb}
 use lib.ListN.{length, getD}
 use Rattle.wire.specs.Numbers.{numberAt}
-use Rattle.wire.specs.Rules.{endsBy}
+use Rattle.wire.specs.Rules.{every, endsBy}
 use Rattle.tables.specs.declared.Structure.{Structure}
-use Rattle.tables.specs.Structures.{structuresAt, structureRight, every, prefixFree}
+use Rattle.tables.specs.Structures.{structuresAt, structureRight, prefixFree}
 use Rattle.tables.specs.Default.{defaultTable}
 
 -- the first two bytes say how many tables follow; if they are 19999, none follows, and the default table is the only one

@@ -5,7 +5,8 @@ use mathlib.Core.Bool.{Bool, true, not, _&&_, cond}
 use mathlib.Core.List.{List, [], _∷_}
 use lib.Dec.{leb, ltb, eqb}
 use Rattle.wire.specs.Numbers.{byteAt, numberAt}
-use Rattle.bits.specs.Bits.{lowBits, begins}
+use Rattle.wire.specs.Rules.{every}
+use Rattle.bits.specs.Bits.{lowFirst, begins}
 use Rattle.tables.specs.declared.Structure.{Structure}
 
 -- the structure in the nine bytes from a place on: those five numbers in that order, in 1, 1, 1, 2 and 4 bytes
@@ -18,10 +19,6 @@ structureAt s o = record {
   code = numberAt 4 s (o + 5);
 }
 
--- what stands for a structure past the end of a table
-abbrev pub noStructure : Structure
-noStructure = record { prefix = 0; whole = 0; mode = 0; base = 0; code = 0 }
-
 -- n structures, one after another
 unfoldable pub structuresAt : List ℕ → ℕ → ℕ → List Structure
 structuresAt s o zero = []
@@ -29,7 +26,7 @@ structuresAt s o (suc n) = structureAt s o ∷ structuresAt s (o + 9) n
 
 -- the bits of the prefix in the order in which they are read, which is from the base code's lowest bit upwards
 abbrev pub prefixOf : Structure → List ℕ
-prefixOf c = lowBits (c .prefix) (c .code)
+prefixOf c = lowFirst (c .prefix) (c .code)
 
 -- how many bits follow the prefix: the remainder
 abbrev pub remainderOf : Structure → ℕ
@@ -52,11 +49,6 @@ structureRight tables c =
 -- neither prefix begins the other or equals it
 unfoldable pub apart : Structure → Structure → Bool
 apart c d = not (begins (prefixOf c) (prefixOf d)) && not (begins (prefixOf d) (prefixOf c))
-
--- a rule holds of every element of a list
-unfoldable pub every : {A : Type 0} → (A → Bool) → List A → Bool
-every rule [] = true
-every rule (x ∷ xs) = rule x && every rule xs
 
 -- any two structures of a table are apart
 unfoldable pub prefixFree : List Structure → Bool

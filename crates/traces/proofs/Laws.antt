@@ -15,8 +15,8 @@ use lib.Seq.{take-all, take-suc-set}
 use Rattle.bits.specs.InnerRaised.{lower}
 use Rattle.bits.proofs.Raised.{lower-same}
 use Rattle.samples.specs.Differences.{sampleOf}
-use Rattle.samples.specs.Trace.{Trace, rebuilt, fault, fits16, behind, afterSample, traceOf}
-use Rattle.samples.specs.InnerTrace.{before}
+use Rattle.samples.specs.Trace.{Trace, rebuilt, fault, fits16, behind, afterSample}
+use Rattle.samples.specs.InnerTrace.{before, traceOf}
 use Rattle.samples.proofs.Laws.{fits-lower, before-none, before-more}
 use Rattle.tables.specs.declared.Structure.{Structure}
 use Rattle.reading.specs.Reading.{Next, gave, stuck, readNext}

@@ -6,7 +6,7 @@ ghost use Prim.Native.Nat.{ℕ, suc, _+_, _*_, _<_, _≤_};
 ghost use lib.ListN.{length, drop};
 ghost use Rattle.bits.specs.Bits.{bitsIn};
 ghost use Rattle.bits.specs.InnerRaised.{lower};
-ghost use Rattle.samples.specs.Trace.{traceOf};
+ghost use Rattle.samples.specs.InnerTrace.{traceOf};
 ghost use Rattle.tables.specs.declared.Structure.{Structure};
 ghost use Rattle.compiled.specs.InnerForm.{Holding, Held};
 ghost use Rattle.traces.specs.Rebuilding.{rebuildFrom, rebuild};

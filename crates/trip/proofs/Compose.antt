@@ -9,9 +9,8 @@ use borrow.Author.Tests.{leb-true, eqb-true, eqb-false, not-true}
 use lib.Dec.{leb, eqb}
 use lib.IntN.{ℤ}
 use lib.ListN.{length, getD, take, drop, length-take, length-drop}
-use Rattle.wire.specs.Rules.{allIn}
+use Rattle.wire.specs.Rules.{allIn, every}
 use Rattle.wire.proofs.Laws.{all-at, unlike}
-use Rattle.tables.specs.Structures.{every}
 use Rattle.tables.specs.Default.{defaultTable}
 use Rattle.tables.specs.Section2.{isDefault, tableCount, tablesFrom, tablesIn, tableRight, section2Right}
 use Rattle.tables.proofs.Laws.{length-tables, own-tables}
@@ -20,8 +19,8 @@ use Rattle.samples.specs.Differences.{differences}
 use Rattle.samples.specs.Trace.{fits16}
 use Rattle.packing.specs.Packing.{packed}
 use Rattle.shortest.specs.Shortest.{Stream}
-use Rattle.encode.specs.Encoding.{tablesGiven, givenRight}
-use Rattle.compose.specs.Writing.{Job, total, leadAsked, jobRight, cut, FoundAll, done, lead, behind, streamsOf}
+use Rattle.encode.specs.Encoding.{tablesGiven, tablesGivenRight}
+use Rattle.compose.specs.Writing.{Job, total, leadAsked, jobRight, cut, FoundAll, done, lead, withStream, packedAll}
 use Rattle.trip.proofs.Entries.{Asked}
 
 -- ---- rule 17
@@ -80,8 +79,8 @@ job-right j h =
 -- ---- rule 7
 
 -- given tables are right
-pub given-right : (s : List ℕ) → givenRight s ≡ true → every (tableRight (length (tablesGiven s))) (tablesGiven s) ≡ true
-unfolding givenRight tablesGiven tablesIn every
+pub given-right : (s : List ℕ) → tablesGivenRight s ≡ true → every (tableRight (length (tablesGiven s))) (tablesGiven s) ≡ true
+unfolding tablesGivenRight tablesGiven tablesIn every
 given-right s g = go (eqb (length s) 0) g
   where
     own : (b : Bool) → section2Right 0 s 0 ≡ true → isDefault s 0 ≡ b
@@ -135,21 +134,21 @@ cut-fits (c ∷ counts) xs h (suc k) = cut-fits counts (drop c xs) (drop-fits c 
 -- there are streams for all leads, so for the first, and for the others
 record Cons (bs : List ℕ) (founds : List (Option (List ℕ))) (streams : List (List ℕ)) : Type 0 where
   others : List (List ℕ)
-  rest : streamsOf founds ≡ some others
+  rest : packedAll founds ≡ some others
   split : streams ≡ packed bs ∷ others
 
-streams-cons : (bs : List ℕ) (founds : List (Option (List ℕ))) (streams : List (List ℕ)) → behind bs (streamsOf founds) ≡ some streams
+streams-cons : (bs : List ℕ) (founds : List (Option (List ℕ))) (streams : List (List ℕ)) → withStream bs (packedAll founds) ≡ some streams
     → Cons bs founds streams
-streams-cons bs founds streams h = go (streamsOf founds) refl h
+streams-cons bs founds streams h = go (packedAll founds) refl h
   where
-    go : (o : Option (List (List ℕ))) → streamsOf founds ≡ o → behind bs o ≡ some streams → Cons bs founds streams
+    go : (o : Option (List (List ℕ))) → packedAll founds ≡ o → withStream bs o ≡ some streams → Cons bs founds streams
     go none e g = unlike cc
     go (some others) e g = record { others = others; rest = e; split = cc }
 
 -- a stream for each lead
 pub found-length : (s2 : List ℕ) (order : ℕ) {xss : List (List ℤ)} {founds : List (Option (List ℕ))} (streams : List (List ℕ))
-    → FoundAll s2 order xss founds → streamsOf founds ≡ some streams → length streams ≡ length xss
-unfolding streamsOf
+    → FoundAll s2 order xss founds → packedAll founds ≡ some streams → length streams ≡ length xss
+unfolding packedAll
 found-length s2 order streams done h = let e : [] ≡ streams = cc in rw (← e)
 found-length s2 order streams (lead {found = none} f all) h = unlike cc
 found-length s2 order streams (lead {found = some bs} {founds = founds} f all) h =
@@ -163,9 +162,9 @@ pub record Lead (s2 : List ℕ) (order : ℕ) (xs : List ℤ) (stream : List ℕ
   pub bytes : stream ≡ packed bits
 
 pub found-at : (s2 : List ℕ) (order : ℕ) {xss : List (List ℤ)} {founds : List (Option (List ℕ))} (streams : List (List ℕ))
-    → FoundAll s2 order xss founds → streamsOf founds ≡ some streams → (k : ℕ) → k < length xss
+    → FoundAll s2 order xss founds → packedAll founds ≡ some streams → (k : ℕ) → k < length xss
     → Lead s2 order (getD xss k []) (getD streams k [])
-unfolding streamsOf
+unfolding packedAll
 found-at s2 order streams done h k l = absurd (omega arith)
 found-at s2 order streams (lead {found = none} f all) h k l = unlike cc
 found-at s2 order streams (lead {xs = xs} {found = some bs} {founds = founds} f all) h zero l =

@@ -11,10 +11,10 @@ use lib.ListN.{length, getD}
 use Rattle.wire.specs.Numbers.{numberAt, bytesOf}
 use Rattle.wire.proofs.Laws.{length-bytesOf}
 use Rattle.pointers.specs.Pointers.{countOf, idOf, lengthOf, indexOf}
-use Rattle.tables.specs.Structures.{every}
-use Rattle.layout.specs.Layout.{sizeFor, givenSize, checked, sectionBytes, letters, noLetters, pointerBytes, absent, pointersData, givenSection, recordSize, recordBytes}
+use Rattle.layout.specs.Layout.{sectionLength, section2Size, checked, sectionBytes, letters, zeroReserved, pointerBytes, absent, pointersData, section2Bytes, recordSize, recordBytes}
 use Rattle.wire.proofs.Places.{Stands, stands-inner, stands-first, stands-behind, stands-whole, stands-at, stands-written}
-use Rattle.layout.proofs.Laws.{length-pointerBytes, length-pointersData, length-sectionBytes, length-givenSection, length-recordBytes}
+use Rattle.wire.specs.Rules.{every}
+use Rattle.layout.proofs.Laws.{length-pointerBytes, length-pointersData, length-sectionBytes, length-section2Bytes, length-recordBytes}
 use Rattle.trip.proofs.Sections.{checked-body, headOf, section-headed, length-head, section-size, headed-holds}
 
 -- ---- pointers one behind another
@@ -78,16 +78,16 @@ module _ (v : ℕ) (d1 d2 d3 d6 : List ℕ) where
 
   -- the lengths of its sections
   abbrev z1 : ℕ
-  z1 = sizeFor (length d1)
+  z1 = sectionLength (length d1)
 
   abbrev z2 : ℕ
-  z2 = givenSize (length d2)
+  z2 = section2Size (length d2)
 
   abbrev z3 : ℕ
-  z3 = sizeFor (length d3)
+  z3 = sectionLength (length d3)
 
   abbrev z6 : ℕ
-  z6 = sizeFor (length d6)
+  z6 = sectionLength (length d6)
 
   -- its parts
   abbrev size : List ℕ
@@ -100,17 +100,17 @@ module _ (v : ℕ) (d1 d2 d3 d6 : List ℕ) where
   section0 = sectionBytes 0 v letters pointers
 
   abbrev section1 : List ℕ
-  section1 = sectionBytes 1 v noLetters d1
+  section1 = sectionBytes 1 v zeroReserved d1
 
   abbrev section3 : List ℕ
-  section3 = sectionBytes 3 v noLetters d3
+  section3 = sectionBytes 3 v zeroReserved d3
 
   abbrev section6 : List ℕ
-  section6 = sectionBytes 6 v noLetters d6
+  section6 = sectionBytes 6 v zeroReserved d6
 
   -- what follows Section 1, and what follows Section 0
   abbrev behind1 : List ℕ
-  behind1 = givenSection v d2 ++ (section3 ++ section6)
+  behind1 = section2Bytes v d2 ++ (section3 ++ section6)
 
   abbrev behind0 : List ℕ
   behind0 = section1 ++ behind1
@@ -150,24 +150,24 @@ module _ (v : ℕ) (d1 d2 d3 d6 : List ℕ) where
 
   from2 : Stands r (142 + z1) behind1
   from2 =
-      let e : 142 + (length section1 + 0) ≡ 142 + z1 = omega (arith, length-sectionBytes 1 v noLetters d1 refl) in
+      let e : 142 + (length section1 + 0) ≡ 142 + z1 = omega (arith, length-sectionBytes 1 v zeroReserved d1 refl) in
       stands-at e (stands-inner from1 (stands-behind section1 behind1 (stands-whole behind1)))
 
-  pub section2-there : Stands r (142 + z1) (givenSection v d2)
-  section2-there = stands-at (add-zero (142 + z1)) (stands-inner from2 (stands-first (givenSection v d2) (section3 ++ section6)))
+  pub section2-there : Stands r (142 + z1) (section2Bytes v d2)
+  section2-there = stands-at (add-zero (142 + z1)) (stands-inner from2 (stands-first (section2Bytes v d2) (section3 ++ section6)))
 
   from3 : Stands r (142 + z1 + z2) (section3 ++ section6)
   from3 =
       let l = section3 ++ section6 in
-      let e : 142 + z1 + (length (givenSection v d2) + 0) ≡ 142 + z1 + z2 = omega (arith, length-givenSection v d2) in
-      stands-at e (stands-inner from2 (stands-behind (givenSection v d2) l (stands-whole l)))
+      let e : 142 + z1 + (length (section2Bytes v d2) + 0) ≡ 142 + z1 + z2 = omega (arith, length-section2Bytes v d2) in
+      stands-at e (stands-inner from2 (stands-behind (section2Bytes v d2) l (stands-whole l)))
 
   pub section3-there : Stands r (142 + z1 + z2) section3
   section3-there = stands-at (add-zero (142 + z1 + z2)) (stands-inner from3 (stands-first section3 section6))
 
   pub section6-there : Stands r (142 + z1 + z2 + z3) section6
   section6-there =
-      let e : 142 + z1 + z2 + (length section3 + 0) ≡ 142 + z1 + z2 + z3 = omega (arith, length-sectionBytes 3 v noLetters d3 refl) in
+      let e : 142 + z1 + z2 + (length section3 + 0) ≡ 142 + z1 + z2 + z3 = omega (arith, length-sectionBytes 3 v zeroReserved d3 refl) in
       stands-at e (stands-inner from3 (stands-behind section3 section6 (stands-whole section6)))
 
   -- what the pointers say, in a record within its bound
@@ -246,7 +246,7 @@ module _ (v : ℕ) (d1 d2 d3 d6 : List ℕ) where
     -- Section 0's length, and how many pointers it has
     pub section0-length : numberAt 4 r 10 ≡ 136
     section0-length =
-        let e : sizeFor (length pointers) ≡ 136 = rw (length-pointersData z1 z2 z3 z6) in
+        let e : sectionLength (length pointers) ≡ 136 = rw (length-pointersData z1 z2 z3 z6) in
         let s = rw e at (section-size 0 v letters pointers) in
         stands-written 4 136 (omega arith) (stands-inner section0-there s)
 

@@ -16,7 +16,7 @@ use Rattle.header.proofs.Moved.{section1-moved}
 use Rattle.pointers.specs.Pointers.{idOf, lengthOf, indexOf, endOf}
 use Rattle.record.specs.Rules.{lengthRight, holdsCheck, recordCheckRight, lettersRight, idRight, ownPointerRight, section0Right, placedRight, allPlacedRight, sectionCheckRight, checksRight, fieldsRight}
 use Rattle.record.specs.Opening.{openRefusal}
-use Rattle.layout.specs.Layout.{sizeFor, givenSize, checked, givenSection, letters, recordSize, recordBytes}
+use Rattle.layout.specs.Layout.{sectionLength, section2Size, checked, section2Bytes, letters, recordSize, recordBytes}
 use Rattle.layout.proofs.Laws.{length-pointersData, length-sectionBytes, length-recordBytes}
 use Rattle.wire.proofs.Places.{stands-byte, stands-inner, stands-whole, stands-written}
 use Rattle.trip.proofs.Sections.{check-held, bodyOf, section-checked, section-id, section-reserved}
@@ -30,16 +30,16 @@ module _ (v : ℕ) (d1 d2 d3 d6 : List ℕ) (small : length (recordBytes v d1 d2
   r = recordBytes v d1 d2 d3 d6
 
   abbrev z1 : ℕ
-  z1 = sizeFor (length d1)
+  z1 = sectionLength (length d1)
 
   abbrev z2 : ℕ
-  z2 = givenSize (length d2)
+  z2 = section2Size (length d2)
 
   abbrev z3 : ℕ
-  z3 = sizeFor (length d3)
+  z3 = sectionLength (length d3)
 
   abbrev z6 : ℕ
-  z6 = sizeFor (length d6)
+  z6 = sectionLength (length d6)
 
   -- ---- its sections
 
@@ -53,9 +53,9 @@ module _ (v : ℕ) (d1 d2 d3 d6 : List ℕ) (small : length (recordBytes v d1 d2
   }
 
   pub section2-placed : eqb (length d2) 0 ≡ false → Placed r 2 v (142 + z1) d2
-  unfolding givenSection
+  unfolding section2Bytes
   section2-placed e =
-      let z : z2 ≡ sizeFor (length d2) = rw e in
+      let z : z2 ≡ sectionLength (length d2) = rw e in
       let some = ne-eqb z2 0 (λ n. absurd (omega arith)) in
       let there = rw e at (F.section2-there v d1 d2 d3 d6) in
       record {
@@ -160,7 +160,7 @@ module _ (v : ℕ) (d1 d2 d3 d6 : List ℕ) (small : length (recordBytes v d1 d2
           let z : z2 ≡ 0 = rw e in
           let i : indexOf r 2 ≡ 0 = F.index-at v d1 d2 d3 d6 small 2 (omega arith) ∙ rw (eq-eqb z2 0 z) in
           omega (arith, section2-absent e)
-      go false e = let z : z2 ≡ sizeFor (length d2) = rw e in omega (arith, placed-end (section2-placed e))
+      go false e = let z : z2 ≡ sectionLength (length d2) = rw e in omega (arith, placed-end (section2-placed e))
 
   rooms : (z1 < 4294967296) × (z2 < 4294967296) × (z3 < 4294967296) × (z6 < 4294967296)
   rooms = omega (arith, length-recordBytes v d1 d2 d3 d6, small)
@@ -178,7 +178,7 @@ module _ (v : ℕ) (d1 d2 d3 d6 : List ℕ) (small : length (recordBytes v d1 d2
       go true e = absent-placed r 2 (section2-absent e)
       go false e =
           let p = section2-placed e in
-          let z : z2 ≡ sizeFor (length d2) = rw e in
+          let z : z2 ≡ sectionLength (length d2) = rw e in
           let before = ends-before r 2 1 (omega (arith, placed-end section1-placed, p .index)) in
           placed-right p (F.section0-length v d1 d2 d3 d6 small) (omega arith) (omega (arith, rooms)) (rw before)
 
@@ -235,7 +235,7 @@ module _ (v : ℕ) (d1 d2 d3 d6 : List ℕ) (small : length (recordBytes v d1 d2
   check0 =
       let p = F.pointers v d1 d2 d3 d6 in
       let e = section-checked 0 v letters p in
-      let n : sizeFor (length p) ≡ 136 = rw (length-pointersData z1 z2 z3 z6) in
+      let n : sectionLength (length p) ≡ 136 = rw (length-pointersData z1 z2 z3 z6) in
       let l = sym (ap length e) ∙ length-sectionBytes 0 v letters p refl ∙ n in
       rw l at (check-held r 6 (bodyOf 0 v letters p) (rw e at (F.section0-there v d1 d2 d3 d6)))
 

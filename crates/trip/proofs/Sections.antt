@@ -15,7 +15,7 @@ use Rattle.wire.proofs.Laws.{length-bytesOf, crc-small}
 use Rattle.wire.proofs.Places.{Moved, Stands, stands-part, stands-inner, stands-first, stands-behind, stands-whole, stands-at, stands-written}
 use Rattle.bits.proofs.Windows.{zeros-behind}
 use Rattle.record.specs.Rules.{holdsCheck}
-use Rattle.layout.specs.Layout.{evened, sizeFor, checked, sectionBytes}
+use Rattle.layout.specs.Layout.{evened, sectionLength, checked, sectionBytes}
 use Rattle.layout.proofs.Laws.{length-checked}
 
 -- ---- the check
@@ -72,13 +72,13 @@ headed-holds h head d =
 -- what a section's check is taken over
 abbrev pub bodyOf : ℕ → ℕ → List ℕ → List ℕ → List ℕ
 bodyOf id version reserved s =
-    bytesOf 2 id ++ (bytesOf 4 (sizeFor (length s)) ++ (version ∷ (version ∷ (reserved ++ evened s))))
+    bytesOf 2 id ++ (bytesOf 4 (sectionLength (length s)) ++ (version ∷ (version ∷ (reserved ++ evened s))))
 
 -- the header of 16 bytes
 unfoldable pub headOf : ℕ → ℕ → List ℕ → List ℕ → List ℕ
 headOf id version reserved s =
     bytesOf 2 (crcOf (bodyOf id version reserved s))
-    ++ (bytesOf 2 id ++ (bytesOf 4 (sizeFor (length s)) ++ (version ∷ (version ∷ reserved))))
+    ++ (bytesOf 2 id ++ (bytesOf 4 (sectionLength (length s)) ++ (version ∷ (version ∷ reserved))))
 
 module _ (id version : ℕ) (reserved s : List ℕ) where
   pub section-headed : sectionBytes id version reserved s ≡ headOf id version reserved s ++ evened s
@@ -98,12 +98,12 @@ module _ (id version : ℕ) (reserved s : List ℕ) where
   unfolding sectionBytes checked bytesOf
   section-id = record {
     front = bytesOf 2 (crcOf (bodyOf id version reserved s));
-    rest = bytesOf 4 (sizeFor (length s)) ++ (version ∷ (version ∷ (reserved ++ evened s)));
+    rest = bytesOf 4 (sectionLength (length s)) ++ (version ∷ (version ∷ (reserved ++ evened s)));
     split = refl;
     place = refl;
   }
 
-  pub section-size : Stands (sectionBytes id version reserved s) 4 (bytesOf 4 (sizeFor (length s)))
+  pub section-size : Stands (sectionBytes id version reserved s) 4 (bytesOf 4 (sectionLength (length s)))
   unfolding sectionBytes checked bytesOf
   section-size = record {
     front = bytesOf 2 (crcOf (bodyOf id version reserved s)) ++ bytesOf 2 id;
@@ -117,7 +117,7 @@ module _ (id version : ℕ) (reserved s : List ℕ) where
   unfolding sectionBytes checked bytesOf
   section-reserved = record {
     front = bytesOf 2 (crcOf (bodyOf id version reserved s))
-        ++ (bytesOf 2 id ++ (bytesOf 4 (sizeFor (length s)) ++ (version ∷ (version ∷ []))));
+        ++ (bytesOf 2 id ++ (bytesOf 4 (sectionLength (length s)) ++ (version ∷ (version ∷ []))));
     rest = evened s;
     split = refl;
     place = refl;

@@ -8,11 +8,11 @@ use borrow.Author.Tests.{leb-true, le-leb, ne-eqb}
 use lib.Dec.{leb}
 use lib.ListN.{length, getD, length-append}
 use Rattle.wire.specs.Numbers.{bytesOf}
-use Rattle.wire.specs.Rules.{endsBy}
+use Rattle.wire.specs.Rules.{every, endsBy}
 use Rattle.wire.proofs.Laws.{length-bytesOf}
-use Rattle.entries.specs.Streams.{stepOf, intervalOf, orderOf, bimodalOf, streamBytes, bytesBefore, streamStart, streamOf, streamsRight, section6Right}
-use Rattle.layout.specs.Layout.{countsOf, joined, streamsData}
-use Rattle.layout.proofs.Laws.{length-countsOf, length-streamsData}
+use Rattle.entries.specs.Streams.{stepOf, intervalOf, orderOf, bimodalOf, byteCountOf, bytesBefore, streamStart, streamOf, streamsRight, section6Right}
+use Rattle.layout.specs.Layout.{byteCountsOf, joined, streamsData}
+use Rattle.layout.proofs.Laws.{length-byteCountsOf, length-streamsData}
 use Rattle.compose.specs.Writing.{allShort}
 use Rattle.wire.proofs.Places.{Stands, stands-part, stands-byte, stands-inner, stands-first, stands-behind, stands-whole, stands-at, stands-written}
 use Rattle.trip.proofs.Sections.{Holds}
@@ -37,13 +37,13 @@ before-all [] = refl
 before-all (x ∷ streams) = let e = before-all streams in omega (arith, length-append x (joined streams))
 
 count-stands : (streams : List (List ℕ)) (k : ℕ) → k < length streams
-    → Stands (countsOf streams) (2 * k) (bytesOf 2 (length (getD streams k [])))
-unfolding countsOf
+    → Stands (byteCountsOf streams) (2 * k) (bytesOf 2 (length (getD streams k [])))
+unfolding byteCountsOf
 count-stands [] k h = absurd (omega arith)
-count-stands (x ∷ streams) zero h = stands-first (bytesOf 2 (length x)) (countsOf streams)
+count-stands (x ∷ streams) zero h = stands-first (bytesOf 2 (length x)) (byteCountsOf streams)
 count-stands (x ∷ streams) (suc k) h =
     let e : length (bytesOf 2 (length x)) + 2 * k ≡ 2 * suc k = omega (arith, length-bytesOf 2 (length x)) in
-    stands-at e (stands-behind (bytesOf 2 (length x)) (countsOf streams) (count-stands streams k (omega arith)))
+    stands-at e (stands-behind (bytesOf 2 (length x)) (byteCountsOf streams) (count-stands streams k (omega arith)))
 
 stream-stands : (streams : List (List ℕ)) (k : ℕ) → k < length streams → Stands (joined streams) (before k streams) (getD streams k [])
 unfolding joined before
@@ -52,7 +52,7 @@ stream-stands (x ∷ streams) zero h = stands-first x (joined streams)
 stream-stands (x ∷ streams) (suc k) h = stands-behind x (joined streams) (stream-stands streams k (omega arith))
 
 short-at : (streams : List (List ℕ)) → allShort streams ≡ true → (k : ℕ) → length (getD streams k []) < 65536
-unfolding allShort
+unfolding allShort every
 short-at [] h k = omega arith
 short-at (x ∷ streams) h zero =
     let e = leb-true (length x) 65535 (and-eq-true-iff (leb (length x) 65535) (allShort streams) .0 h .0) in
@@ -70,7 +70,7 @@ module _ {s : List ℕ} {step interval order : ℕ} {streams : List (List ℕ)} 
   unfolding streamsData bytesOf
   front-there =
       let f = bytesOf 2 step ++ (bytesOf 2 interval ++ (order ∷ (0 ∷ []))) in
-      stands-inner (w .holds .stands) (stands-first f (countsOf streams ++ joined streams))
+      stands-inner (w .holds .stands) (stands-first f (byteCountsOf streams ++ joined streams))
 
   pub streams-step : stepOf s ≡ step
   streams-step =
@@ -93,17 +93,17 @@ module _ {s : List ℕ} {step interval order : ℕ} {streams : List (List ℕ)} 
   streams-bimodal = stands-byte front-there 5 (omega arith)
 
   -- what stands behind those numbers
-  rest-there : Stands s 22 (countsOf streams ++ joined streams)
+  rest-there : Stands s 22 (byteCountsOf streams ++ joined streams)
   unfolding streamsData bytesOf
   rest-there =
       let f = bytesOf 2 step ++ (bytesOf 2 interval ++ (order ∷ (0 ∷ []))) in
-      let l = countsOf streams ++ joined streams in
+      let l = byteCountsOf streams ++ joined streams in
       stands-inner (w .holds .stands) (stands-behind f l (stands-whole l))
 
-  streams-bytes : (k : ℕ) → k < length streams → streamBytes s k ≡ length (getD streams k [])
+  streams-bytes : (k : ℕ) → k < length streams → byteCountOf s k ≡ length (getD streams k [])
   streams-bytes k there =
       let n = length (getD streams k []) in
-      let counts = stands-inner rest-there (stands-first (countsOf streams) (joined streams)) in
+      let counts = stands-inner rest-there (stands-first (byteCountsOf streams) (joined streams)) in
       stands-written 2 n (short-at streams (w .short) k) (stands-inner counts (count-stands streams k there))
 
   streams-before : (k : ℕ) → k ≤ length streams → bytesBefore s k ≡ before k streams
@@ -117,8 +117,8 @@ module _ {s : List ℕ} {step interval order : ℕ} {streams : List (List ℕ)} 
   unfolding streamOf streamStart
   streams-stream k there =
       let n = length streams in
-      let inner = stands-behind (countsOf streams) (joined streams) (stream-stands streams k there) in
-      let e : 22 + (length (countsOf streams) + before k streams) ≡ 22 + 2 * n + before k streams = omega (arith, length-countsOf streams) in
+      let inner = stands-behind (byteCountsOf streams) (joined streams) (stream-stands streams k there) in
+      let e : 22 + (length (byteCountsOf streams) + before k streams) ≡ 22 + 2 * n + before k streams = omega (arith, length-byteCountsOf streams) in
       rw (streams-before k (omega arith), streams-bytes k there) (stands-part (stands-at e (stands-inner rest-there inner)))
 
   -- the section keeps its rule

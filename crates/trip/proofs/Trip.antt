@@ -23,15 +23,15 @@ use Rattle.fields.proofs.Laws.{place-opened}
 use Rattle.tables.specs.Section2.{tablesIn, section2Right}
 use Rattle.tables.proofs.Moved.{tables-there, section2-moved}
 use Rattle.entries.specs.Leads.{section3Right}
-use Rattle.entries.specs.Streams.{streamBytes, streamOf, section6Right}
-use Rattle.rules.specs.Rules.{tablesRight, leadsOf, hasBeat, beatRight, rhythmRight, leadsRight, stepsAgree, agrees, hasLead, leadRefusal}
+use Rattle.entries.specs.Streams.{byteCountOf, streamOf, section6Right}
+use Rattle.rules.specs.Rules.{tablesRight, leadCountOf, beatSubtracted, beatRight, section6Kept, sections3To6Right, stepsAgree, agrees, hasLead, leadRefusal}
 use Rattle.samples.specs.Trace.{rebuilt}
-use Rattle.leads.specs.Leads.{tablesOf, streamTrace, countAt, residual, traceAt, roomRight, readRefusal, readTrace}
+use Rattle.leads.specs.Leads.{tablesOf, streamTrace, sampleCountAt, residual, traceAt, roomRight, readRefusal, readTrace}
 use Rattle.leads.specs.Answers.{leadAnswer, entryAnswer}
-use Rattle.encode.specs.Encoding.{tablesGiven, givenRight}
-use Rattle.layout.specs.Layout.{sizeFor, noLetters, leadsData, streamsData, recordBytes}
-use Rattle.compose.specs.Writing.{Job, jobRight, cut, FoundAll, streamsOf, allShort, recordOf}
-use Rattle.trip.specs.GivenBack.{JobBytes, GivenBack, bytesOfStep, bytesAtPlace, behindHeader, samplesOf}
+use Rattle.encode.specs.Encoding.{tablesGiven, tablesGivenRight}
+use Rattle.layout.specs.Layout.{sectionLength, zeroReserved, leadsData, streamsData, recordBytes}
+use Rattle.compose.specs.Writing.{Job, jobRight, cut, FoundAll, packedAll, allShort, recordOf}
+use Rattle.trip.specs.GivenBack.{JobFits, GivenBack, bytesOfStep, bytesAtPlace, behindHeader, samplesOf}
 use Rattle.trip.proofs.Traces.{stream-back}
 use Rattle.wire.proofs.Places.{Stands, stands-part, stands-cut, stands-inner}
 use Rattle.trip.proofs.Sections.{headOf, section-headed, length-head, headed-holds}
@@ -48,8 +48,8 @@ module _ (r : List ℕ) (v : ℕ) (d : List ℕ) (opened : openRefusal r ≡ 0) 
   -- its data
   data-there : Stands r 158 d
   data-there =
-      let inner = headed-holds (headOf 1 v noLetters d) (length-head 1 v noLetters d refl) d .stands in
-      stands-inner (p .there) (rw (← section-headed 1 v noLetters d) at inner)
+      let inner = headed-holds (headOf 1 v zeroReserved d) (length-head 1 v zeroReserved d refl) d .stands in
+      stands-inner (p .there) (rw (← section-headed 1 v zeroReserved d) at inner)
 
   -- a field is shown as it was given
   field-shown : (tag n : ℕ) → bytesAtPlace r (fieldPlace r tag n) ≡ bytesOfStep d (occurring n (withTag tag (fieldsFrom d 0)))
@@ -78,9 +78,9 @@ module _ (r : List ℕ) (v : ℕ) (d : List ℕ) (opened : openRefusal r ≡ 0) 
 
 -- ---- leads
 
-module _ (j : Job) (founds : List (Option (List ℕ))) (streams : List (List ℕ)) (bytes : JobBytes j) (asked : jobRight j ≡ true)
-    (one : section1Right 0 (j .section1) 0 ≡ true) (two : givenRight (j .section2) ≡ true)
-    (found : FoundAll (j .section2) (j .order) (cut (j .counts) (j .samples)) founds) (made : streamsOf founds ≡ some streams)
+module _ (j : Job) (founds : List (Option (List ℕ))) (streams : List (List ℕ)) (bytes : JobFits j) (asked : jobRight j ≡ true)
+    (one : section1Right 0 (j .section1) 0 ≡ true) (two : tablesGivenRight (j .section2) ≡ true)
+    (found : FoundAll (j .section2) (j .order) (cut (j .counts) (j .samples)) founds) (made : packedAll founds ≡ some streams)
     (short : allShort streams ≡ true)
     (small : length
     (recordBytes (j .version) (j .section1) (j .section2) (leadsData (j .flags) (j .firsts) (j .counts) (j .ids))
@@ -105,7 +105,7 @@ module _ (j : Job) (founds : List (Option (List ℕ))) (streams : List (List ℕ
   as-many = found-length (j .section2) (j .order) streams found made ∙ length-cut (j .counts) (j .samples)
 
   -- its sections
-  placed2 : eqb (length (j .section2)) 0 ≡ false → Placed r 2 (j .version) (142 + sizeFor (length (j .section1))) (j .section2)
+  placed2 : eqb (length (j .section2)) 0 ≡ false → Placed r 2 (j .version) (142 + sectionLength (length (j .section1))) (j .section2)
   placed2 e = O.section2-placed (j .version) (j .section1) (j .section2) d3 d6 small e
 
   absent2 : eqb (length (j .section2)) 0 ≡ true → present r 2 ≡ false
@@ -133,14 +133,14 @@ module _ (j : Job) (founds : List (Option (List ℕ))) (streams : List (List ℕ
   }
 
   -- what they say
-  leads-there : leadsOf r ≡ n
+  leads-there : leadCountOf r ≡ n
   leads-there = E.leads-count three
 
-  no-beat : hasBeat r ≡ false
-  unfolding hasBeat
+  no-beat : beatSubtracted r ≡ false
+  unfolding beatSubtracted
   no-beat = rw present3 (E.leads-whole three)
 
-  section6-kept : section6Right (leadsOf r) (sectionOf r 6) ≡ true
+  section6-kept : section6Right (leadCountOf r) (sectionOf r 6) ≡ true
   section6-kept =
       rw (leads-there, ← as-many) (S.streams-kept six (right .step) (right .interval) (right .order))
 
@@ -149,7 +149,7 @@ module _ (j : Job) (founds : List (Option (List ℕ))) (streams : List (List ℕ
 
   -- rules 7 to 10
   tables-kept : tablesRight r ≡ true
-  unfolding tablesRight givenRight
+  unfolding tablesRight tablesGivenRight
   tables-kept = go (eqb (length (j .section2)) 0) refl two
     where
       go : (b : Bool) → eqb (length (j .section2)) 0 ≡ b → b || section2Right 0 (j .section2) 0 ≡ true
@@ -157,8 +157,8 @@ module _ (j : Job) (founds : List (Option (List ℕ))) (streams : List (List ℕ
       go true e g = rw (absent2 e)
       go false e g = rw (placed-present (placed2 e)) (section2-moved (placed-holds (placed2 e) .moved) g)
 
-  leads-kept : leadsRight r ≡ true
-  unfolding leadsRight beatRight rhythmRight
+  leads-kept : sections3To6Right r ≡ true
+  unfolding sections3To6Right beatRight section6Kept
   leads-kept = rw (present3, section3-kept, no-beat, present6, section6-kept)
 
   agrees-kept : agrees r ≡ true
@@ -211,7 +211,7 @@ module _ (j : Job) (founds : List (Option (List ℕ))) (streams : List (List ℕ
           first = getD (j .firsts) k 0;
           last = getD (j .firsts) k 0 + getD (j .counts) k 0 - 1;
           leads = n;
-          bytes = streamBytes (sectionOf r 6) k;
+          bytes = byteCountOf (sectionOf r 6) k;
         }
     entry-there =
         let e : k + 1 - 1 ≡ k = omega arith in
@@ -228,11 +228,11 @@ module _ (j : Job) (founds : List (Option (List ℕ))) (streams : List (List ℕ
           E.lead-last three k there,
         )
 
-    count-there : countAt r k ≡ getD (j .counts) k 0
+    count-there : sampleCountAt r k ≡ getD (j .counts) k 0
     count-there = E.lead-count three k there
 
     -- the stream is rebuilt to the samples
-    stream-there : streamOf (leadsOf r) (sectionOf r 6) k ≡ getD streams k []
+    stream-there : streamOf (leadCountOf r) (sectionOf r 6) k ≡ getD streams k []
     stream-there = rw (leads-there, ← as-many) (S.streams-stream six k (omega (arith, as-many)))
 
     samples-there : residual r k ≡ rebuilt (samplesOf j k)
@@ -283,9 +283,9 @@ module _ (j : Job) (founds : List (Option (List ℕ))) (streams : List (List ℕ
           )
 
 -- what the writer accepts and writes, the reader gives back
-pub given-back : (j : Job) (founds : List (Option (List ℕ))) (streams : List (List ℕ)) → JobBytes j → jobRight j ≡ true
-    → section1Right 0 (j .section1) 0 ≡ true → givenRight (j .section2) ≡ true
-    → FoundAll (j .section2) (j .order) (cut (j .counts) (j .samples)) founds → streamsOf founds ≡ some streams → allShort streams ≡ true
+pub given-back : (j : Job) (founds : List (Option (List ℕ))) (streams : List (List ℕ)) → JobFits j → jobRight j ≡ true
+    → section1Right 0 (j .section1) 0 ≡ true → tablesGivenRight (j .section2) ≡ true
+    → FoundAll (j .section2) (j .order) (cut (j .counts) (j .samples)) founds → packedAll founds ≡ some streams → allShort streams ≡ true
     → length (recordOf j streams) ≤ 1048576 → GivenBack j (recordOf j streams)
 unfolding recordOf
 given-back j founds streams bytes asked one two found made short small =
@@ -303,6 +303,6 @@ given-back j founds streams bytes asked one two found made short small =
           lead-read j founds streams bytes asked one two found made short small k there room work enough;
       answers = λ k room work there enough.
           lead-answered j founds streams bytes asked one two found made short small k there room work enough;
-      entries = λ k there. (streamBytes (sectionOf r 6) k, entry-there j founds streams bytes asked one two found made short small k there);
+      entries = λ k there. (byteCountOf (sectionOf r 6) k, entry-there j founds streams bytes asked one two found made short small k there);
       no-other = no-other j founds streams bytes asked one two found made short small;
     }

@@ -12,26 +12,26 @@ use lib.ListN.{length, take, drop}
 use lib.Seq.{take-append-seam}
 use Rattle.wire.proofs.Laws.{kept-first}
 use Rattle.header.specs.Header.{section1Right}
-use Rattle.encode.specs.Encoding.{givenRight}
+use Rattle.encode.specs.Encoding.{tablesGivenRight, workRight}
 use Rattle.compose.specs.declared.Written.{Written}
-use Rattle.compose.specs.Writing.{Job, jobRight, jobRefusal, cut, FoundAll, streamsOf, allShort, recordOf, foundRefusal, writtenAs, outAs, Wrote, refused, searched}
-use Rattle.trip.specs.GivenBack.{JobBytes, GivenBack}
+use Rattle.compose.specs.Writing.{Job, jobRight, jobRefusal, cut, FoundAll, packedAll, allShort, recordOf, recordRefusal, writtenAs, recordOut, Wrote, refused, answered}
+use Rattle.trip.specs.GivenBack.{JobFits, GivenBack}
 use Rattle.trip.proofs.Trip.{given-back}
 
 -- what a job that is not refused before the search keeps
 pub job-kept : (j : Job) (work : ℕ) → jobRefusal j work ≡ 0
-    → (jobRight j ≡ true) × (section1Right 0 (j .section1) 0 ≡ true) × (givenRight (j .section2) ≡ true)
-unfolding jobRefusal
+    → (jobRight j ≡ true) × (section1Right 0 (j .section1) 0 ≡ true) × (tablesGivenRight (j .section2) ≡ true)
+unfolding jobRefusal workRight
 job-kept j work h =
     let a = kept-first (jobRight j) 16 _ h in
     let b = kept-first (section1Right 0 (j .section1) 0) 5 _ (a .1) in
-    let c = kept-first (givenRight (j .section2)) 6 _ (b .1) in
+    let c = kept-first (tablesGivenRight (j .section2)) 6 _ (b .1) in
     (a .0, b .0, c .0)
 
 -- and after it
-found-kept : (j : Job) (room : ℕ) (streams : List (List ℕ)) → foundRefusal j room (some streams) ≡ 0
+found-kept : (j : Job) (room : ℕ) (streams : List (List ℕ)) → recordRefusal j room (some streams) ≡ 0
     → (allShort streams ≡ true) × (length (recordOf j streams) ≤ 1048576)
-unfolding foundRefusal
+unfolding recordRefusal
 found-kept j room streams h =
     let n = length (recordOf j streams) in
     let a = kept-first (allShort streams && leb n 1048576) 15 _ h in
@@ -39,13 +39,13 @@ found-kept j room streams h =
     (b .0, leb-true n 1048576 (b .1))
 
 -- the answer's bytes of the output
-module _ (j : Job) (out : List ℕ) (bytes : JobBytes j) (founds : List (Option (List ℕ)))
+module _ (j : Job) (out : List ℕ) (bytes : JobFits j) (founds : List (Option (List ℕ)))
     (found : FoundAll (j .section2) (j .order) (cut (j .counts) (j .samples)) founds)
-    (kept : (jobRight j ≡ true) × (section1Right 0 (j .section1) 0 ≡ true) × (givenRight (j .section2) ≡ true)) where
+    (kept : (jobRight j ≡ true) × (section1Right 0 (j .section1) 0 ≡ true) × (tablesGivenRight (j .section2) ≡ true)) where
   -- by the refusal and the streams that it is for
-  accepted : (o : Option (List (List ℕ))) → streamsOf founds ≡ o → (n : ℕ) → foundRefusal j (length out) o ≡ n
-      → writtenAs j n o .refusal ≡ 0 → GivenBack j (take (writtenAs j n o .bytes) (outAs j n o out))
-  unfolding foundRefusal
+  accepted : (o : Option (List (List ℕ))) → packedAll founds ≡ o → (n : ℕ) → recordRefusal j (length out) o ≡ n
+      → writtenAs j n o .refusal ≡ 0 → GivenBack j (take (writtenAs j n o .bytes) (recordOut j n o out))
+  unfolding recordRefusal
   accepted none e zero f h = absurd (omega arith)
   accepted none e (suc n) f h = absurd (omega arith)
   accepted (some streams) e (suc n) f h = absurd (omega arith)
@@ -56,9 +56,9 @@ module _ (j : Job) (out : List ℕ) (bytes : JobBytes j) (founds : List (Option 
       (given-back j founds streams bytes (kept .0) (kept .1) (kept .2) found e (w .0) (w .1))
 
 -- what writing answers with no refusal is given back
-pub written-back : (j : Job) (work out : List ℕ) {answer : Written} {work′ out′ : List ℕ} → JobBytes j → Wrote j work out answer work′ out′
+pub written-back : (j : Job) (work out : List ℕ) {answer : Written} {work′ out′ : List ℕ} → JobFits j → Wrote j work out answer work′ out′
     → answer .refusal ≡ 0 → GivenBack j (take (answer .bytes) out′)
 written-back j work out bytes (refused n e) h = absurd (omega arith)
-written-back j work out bytes (searched founds e found) h =
-    accepted j out bytes founds found (job-kept j (length work) e) (streamsOf founds) refl
-    (foundRefusal j (length out) (streamsOf founds)) refl h
+written-back j work out bytes (answered founds e found) h =
+    accepted j out bytes founds found (job-kept j (length work) e) (packedAll founds) refl
+    (recordRefusal j (length out) (packedAll founds)) refl h

@@ -10,6 +10,7 @@ use mathlib.Core.Option.{Option, none, some}
 use lib.IntN.{ℤ}
 use lib.ListN.{length, getD}
 use Rattle.wire.specs.Numbers.{part}
+use Rattle.wire.specs.Rules.{every}
 use Rattle.header.specs.declared.Field.{Field}
 use Rattle.header.specs.declared.Step.{Step}
 use Rattle.header.specs.declared.Step.the-variants.{Found, End}
@@ -19,7 +20,6 @@ use Rattle.record.specs.Opening.{openRefusal}
 use Rattle.fields.specs.declared.Place.{Place}
 use Rattle.fields.specs.declared.Place.the-variants.{At, Refused}
 use Rattle.fields.specs.Lookup.{fieldPlace}
-use Rattle.tables.specs.Structures.{every}
 use Rattle.samples.specs.Trace.{rebuilt, fits16}
 use Rattle.leads.specs.Leads.{readTrace}
 use Rattle.leads.specs.Answers.{leadAnswer, entryAnswer}
@@ -43,7 +43,7 @@ abbrev pub samplesOf : Job → ℕ → List ℤ
 samplesOf j k = getD (cut (j .counts) (j .samples)) k []
 
 -- a job's numbers are such as can be lent: step and interval of two bytes, samples of 16 bits; of its bytes nothing is asked
-pub record JobBytes (j : Job) : Type 0 where
+pub record JobFits (j : Job) : Type 0 where
   pub step : j .step < 65536
   pub interval : j .interval < 65536
   pub samples : every fits16 (j .samples) ≡ true

@@ -19,7 +19,7 @@ use Rattle.record.specs.Rules.{lengthRight, recordCheckRight, lettersRight, sec
 use Rattle.record.specs.Opening.{openRefusal, opens}
 use Rattle.fields.specs.declared.Place.the-variants.{At, Refused}
 use Rattle.fields.specs.Lookup.{walkPlace, partBytes}
-use Rattle.walker.specs.Walk.{shownBy}
+use Rattle.walker.specs.InnerWalk.{shownBy}
 
 -- Section 0 of a record that keeps its rule has a pointer to Section 1
 counted : (r : List ℕ) → section0Right r ≡ true → 1 < countOf r

@@ -1,12 +1,10 @@
 -- What a step of the walk shows of Section 1 (01, Header fields and the patient identifier), and where the next step stands.
-use Prim.Native.Nat.{ℕ, zero, suc}
-use mathlib.Core.Bool.{Bool, true, false, cond}
-use mathlib.Core.List.{List, [], _∷_}
+use Prim.Native.Nat.{ℕ}
+use mathlib.Core.Bool.{Bool, true, false}
+use mathlib.Core.List.{List, []}
 use Rattle.wire.specs.Numbers.{part}
 use Rattle.header.specs.declared.Step.{Step}
 use Rattle.header.specs.declared.Step.the-variants.{Found, End}
-use Rattle.header.specs.Fields.{stepAt}
-use Rattle.walker.specs.declared.Facts.{Facts}
 
 -- a field is shown, or the end
 abbrev pub shownMore : Step → Bool
@@ -26,19 +24,7 @@ abbrev pub shownBytes : List ℕ → Step → List ℕ
 shownBytes s (Found f) = part s (f .start) (f .end)
 shownBytes s End = []
 
--- the tag that a step shows, and whether it shows a field, in one
-abbrev pub factsOf : Step → Facts
-factsOf p = record { tag = shownTag p; more = shownMore p }
-
 -- the next step is at the field's end; the end is not left
 abbrev pub placeAfter : ℕ → Step → ℕ
 placeAfter at (Found f) = f .end
 placeAfter at End = at
-
--- what a walker over s at a place shows in at most so many steps, each a tag and its bytes, up to the end
-unfoldable pub shownBy : ℕ → List ℕ → ℕ → List (ℕ × List ℕ)
-shownBy zero s at = []
-shownBy (suc steps) s at =
-    cond (shownMore (stepAt s at))
-    ((shownTag (stepAt s at), shownBytes s (stepAt s at)) ∷ shownBy steps s (placeAfter at (stepAt s at)))
-    []

@@ -6,7 +6,8 @@ ghost use Prim.Native.Nat.{_+_};
 ghost use Rattle.header.specs.Fields.{stepAt};
 ghost use Rattle.pointers.specs.Pointers.{dataAt};
 ghost use Rattle.fields.specs.Lookup.{walkPlace, refusalOf, partStart, partBytes};
-ghost use Rattle.walker.specs.Walk.{shownMore, shownTag, shownStart, shownBytes, factsOf, placeAfter};
+ghost use Rattle.walker.specs.Walk.{shownMore, shownTag, shownStart, shownBytes, placeAfter};
+ghost use Rattle.walker.specs.InnerWalk.{factsOf};
 use fields::Place;
 use header::Step;
 

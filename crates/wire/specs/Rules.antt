@@ -1,7 +1,7 @@
 -- The words that rules are written in (01, Refusal numbers).
 use Prim.Native.Nat.{ℕ, zero, suc, _+_, _-_}
 use mathlib.Core.Bool.{Bool, true, _&&_, cond}
-use mathlib.Core.List.{List}
+use mathlib.Core.List.{List, [], _∷_}
 use lib.Dec.{leb}
 use lib.ListN.{length}
 
@@ -13,6 +13,11 @@ each (suc n) k p = p k && each n (k + 1) p
 -- p holds of every number from one up to another, the second left out
 unfoldable pub allIn : ℕ → ℕ → (ℕ → Bool) → Bool
 allIn from to p = each (to - from) from p
+
+-- a rule holds of every element of a list
+unfoldable pub every : {A : Type 0} → (A → Bool) → List A → Bool
+every rule [] = true
+every rule (x ∷ xs) = rule x && every rule xs
 
 -- bytes end at a place, with at most so many spare bytes behind it: 1 in a record, 0 in what the writer is given
 unfoldable pub endsBy : ℕ → List ℕ → ℕ → Bool

@@ -8,14 +8,14 @@ use lib.ListN.{length, getD}
 use mir.Syntax.{w16}
 use mir.ValLaws.{toZ-ofZ}
 use Rattle.bits.specs.InnerRaised.{lower}
-use Rattle.entries.specs.Beat.{fiducialOf, zoneType, zoneFiducial, zoneEnd}
-use Rattle.beats.specs.Sums.{beatSample}
+use Rattle.entries.specs.Beat.{fiducialOf, qrsType, qrsFiducial, zoneEnd}
+use Rattle.beats.specs.Sums.{beatValueAt}
 use Rattle.beats.proofs.Laws.{RightZone, beat-right, zone-here, place-end, place-before, place-in, beat-at}
 use Rattle.beats.proofs.beat_by.Statement.{statement}
 use Rattle.beats.proofs.beat_by.Tie as tie
 
 returns : tie.Need-returns
-unfolding lower beatSample
+unfolding lower beatValueAt
 returns c =
     let a = c .before .before .args in
     (rw (place-end (a .s .now) (a .zones) (a .k) (a .n) (omega arith)), omega arith)
@@ -26,7 +26,7 @@ zone-begin-requires c κs =
     omega (arith, beat-right (length (p .args .beat .now)) (p .args .s .now) (p .pre .0) .few)
 
 returns-2 : tie.Need-returns-2
-unfolding lower beatSample
+unfolding lower beatValueAt
 returns-2 c =
     let p = c .before .before .before .before in
     let a = p .args in
@@ -50,7 +50,7 @@ zone-fiducial-requires c κs =
 abbrev At : tie.After-zone-fiducial → Type 0
 At c =
     let a = c .before .before .before .before .before .before .args in
-    RightZone (length (a .beat .now)) (a .s .now) (a .k) × (zoneType (a .s .now) (a .k) ≡ 0) × (a .n ≤ zoneEnd (a .s .now) (a .k))
+    RightZone (length (a .beat .now)) (a .s .now) (a .k) × (qrsType (a .s .now) (a .k) ≡ 0) × (a .n ≤ zoneEnd (a .s .now) (a .k))
 
 here : (c : tie.After-zone-fiducial) → At c
 here c =
@@ -85,7 +85,7 @@ returns-3 c =
     let h : a .k < a .zones = omega arith in
     let z = here found in
     let place = a .n + found .before .number16 .result - found .zone-fiducial .result in
-    let e : a .n + fiducialOf s - zoneFiducial s (a .k) ≡ place = omega arith in
+    let e : a .n + fiducialOf s - qrsFiducial s (a .k) ≡ place = omega arith in
     let in-it = place-in (length beat) s (a .zones) (a .k) (a .n) (p .pre .0) (p .pre .1) h (z .1) (omega arith) (z .2) in
     let x = getD beat (place - 1) (pos 0) in
     let told = c .raised .ensures in

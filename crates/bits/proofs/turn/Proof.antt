@@ -3,14 +3,14 @@ use mathlib.Core.Path.{_≡_}
 use Prim.Native.Nat.{suc, _+_, _-_, _^_, _≤_, _<_}
 use native.Mathlib.Omega.{arith}
 use borrow.Author.Needs.{needs}
-use Rattle.bits.specs.Bits.{lowBits, numberAfter}
+use Rattle.bits.specs.Bits.{lowFirst, numberAfter}
 use Rattle.bits.specs.InnerWindow.{turned}
 use Rattle.bits.proofs.Laws.{digits-more, digits-room}
 use Rattle.bits.proofs.turn.Statement.{statement}
 use Rattle.bits.proofs.turn.Tie as tie
 
 abbrev Inv-loop : tie.InvT-loop
-Inv-loop p code r₀ x₀ k₀ r x k = (k ≤ p) × (r < 2 ^ k) × (numberAfter r (lowBits (p - k) x) ≡ turned p code)
+Inv-loop p code r₀ x₀ k₀ r x k = (k ≤ p) × (r < 2 ^ k) × (numberAfter r (lowFirst (p - k) x) ≡ turned p code)
 
 abbrev μ-loop : tie.MeasureT-loop
 μ-loop p code r₀ x₀ k₀ r x k = p - k
@@ -38,7 +38,7 @@ loop-less : tie.Need-loop-less Inv-loop μ-loop
 loop-less c = search needs
 
 loop-again : tie.Need-loop-again Inv-loop μ-loop
-unfolding lowBits numberAfter
+unfolding lowFirst numberAfter
 loop-again c =
     let a = c .before .before .args in
     let l = c .before .loop in
@@ -46,7 +46,7 @@ loop-again c =
     (omega arith, digits-more 2 (l .k) (l .inv .1) (omega arith), rw e at (l .inv .2))
 
 returns : tie.Need-returns Inv-loop μ-loop
-unfolding lowBits numberAfter
+unfolding lowFirst numberAfter
 returns c =
     let a = c .before .before .args in
     let l = c .before .loop in

@@ -4,7 +4,7 @@ use mathlib.Core.Path.{ap, _∙_}
 use native.Mathlib.Omega.{arith}
 use borrow.Author.Needs.{needs}
 use lib.ListN.{length}
-use Rattle.layout.specs.Layout.{sizeFor}
+use Rattle.layout.specs.Layout.{sectionLength}
 use Rattle.compose.proofs.Parts.{given-bounds}
 use Rattle.compose.proofs.record_size.Statement.{statement}
 use Rattle.compose.proofs.record_size.Tie as tie
@@ -42,7 +42,7 @@ returns-3 c = search needs
 returns-4 : tie.Need-returns-4
 returns-4 c =
     let n = length (c .before .before .before .before .before .before .before .args .sizes .now) in
-    let e = c .before .size-for .ensures ∙ ap (λ (t : ℕ). sizeFor (6 + 2 * n + t)) (c .before .before .total-of .ensures .0) in
+    let e = c .before .size-for .ensures ∙ ap (λ (t : ℕ). sectionLength (6 + 2 * n + t)) (c .before .before .total-of .ensures .0) in
     omega (arith, e, c .before .before .before .front-size .ensures .0, c .if3 .left)
 
 pub record-size-spec : {M : Type 1} → statement M

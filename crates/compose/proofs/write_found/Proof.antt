@@ -7,7 +7,7 @@ use native.Mathlib.Nat.{le-trans, le-of-eq}
 use borrow.Rule.Slice.PartMut.{mid-len, same-len-mid}
 use lib.ListN.{length, take, drop}
 use lib.Seq.{length-take-le}
-use Rattle.layout.specs.Layout.{sizeFor}
+use Rattle.layout.specs.Layout.{sectionLength}
 use Rattle.compose.specs.Writing.{cut}
 use Rattle.compose.specs.InnerSizes.{SizedAs}
 use Rattle.compose.specs.InnerJob.{count6, sizeWith}
@@ -49,7 +49,7 @@ fits c =
 
 -- Section 6 ends where the record does
 ends : (c : tie.After-front-size) → let s = searched (c .before) in
-    c .front-size .result + sizeFor (count6 (sizes s)) ≡ c .before .before .before .judged .result .bytes
+    c .front-size .result + sectionLength (count6 (sizes s)) ≡ c .before .before .before .judged .result .bytes
 ends c =
     let s = searched (c .before) in
     let a = start s .args in

@@ -5,7 +5,7 @@ use mathlib.Core.List.{List, [], _++_}
 use native.Mathlib.Omega.{arith}
 use borrow.Rule.Slice.PartMut.{putMid, mid-len}
 use lib.ListN.{length}
-use Rattle.layout.specs.Layout.{sizeFor, leadsData}
+use Rattle.layout.specs.Layout.{sectionLength, leadsData}
 use Rattle.layout.proofs.Laws.{Filled, filled-from, length-leadsData}
 use Rattle.compose.specs.InnerJob.{frontSize}
 use Rattle.compose.proofs.Parts.{filled-part, filled-length, given-bounds, record-put}
@@ -142,7 +142,7 @@ returns c =
     (leadsData (a .head .flags) (a .firsts .now) (a .counts .now) (a .ids .now)) data6
     (a .out .now) (out1 d) (c .before .before .seal-record .last .0) (w0 .last .0) (d .write-sections .last .0)
     (z .before .before .size-for .result) (z .before .given-size .result) (z .size-for2 .result)
-    (z .before .before .size-for .ensures) (z .before .given-size .ensures) (z .size-for2 .ensures ∙ ap sizeFor (sym n3)) (within z)
+    (z .before .before .size-for .ensures) (z .before .given-size .ensures) (z .size-for2 .ensures ∙ ap sectionLength (sym n3)) (within z)
     (filled1 d) (w0 .ensures) (d .write-sections .ensures) (rw (place z) h) (c .before .before .seal-record .ensures)
 
 pub write-front-spec : {M : Type 1} → statement M

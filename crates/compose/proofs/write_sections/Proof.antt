@@ -7,7 +7,7 @@ use native.Mathlib.Nat.{le-refl, le-add-right}
 use borrow.Rule.Slice.PartMut.{putMid, mid-len}
 use lib.ListN.{length, drop}
 use lib.Seq.{length-take-le}
-use Rattle.layout.specs.Layout.{sizeFor}
+use Rattle.layout.specs.Layout.{sectionLength}
 use Rattle.layout.proofs.Laws.{Filled}
 use Rattle.compose.proofs.Parts.{filled-front, filled-part, filled-length, filled-three, given-bounds}
 use Rattle.compose.proofs.write_sections.Statement.{statement}
@@ -26,7 +26,7 @@ abbrev old : tie.After-given-size → List ℕ
 old c = start c .args .part .now
 
 -- Section 3 ends where the part does
-sum : (c : tie.After-given-size) → at3 c + sizeFor (2 + 9 * length (start c .args .counts .now)) ≡ length (old c)
+sum : (c : tie.After-given-size) → at3 c + sectionLength (2 + 9 * length (start c .args .counts .now)) ≡ length (old c)
 sum c = omega (arith, start c .pre .2, c .before .size-for .ensures, c .given-size .ensures)
 
 -- Section 1 is written

@@ -20,8 +20,8 @@ put-requires c κs = search needs
 loop-holds : tie.Need-loop-holds Inv-loop μ-loop
 loop-holds c = tt
 
-keeps-requires : tie.Need-keeps-requires Inv-loop μ-loop
-keeps-requires c κs = search needs
+row-kept-requires : tie.Need-row-kept-requires Inv-loop μ-loop
+row-kept-requires c κs = search needs
 
 slice-aggregate-put-2 : tie.Need-slice-aggregate-put-2 Inv-loop μ-loop
 slice-aggregate-put-2 c = search needs
@@ -62,7 +62,7 @@ show-rows-spec =
     slice-aggregate-put
     put-requires
     loop-holds
-    keeps-requires
+    row-kept-requires
     slice-aggregate-put-2
     put-requires-2
     cast-put-number

@@ -4,7 +4,7 @@ use mathlib.Core.Bool.{true}
 use native.Mathlib.Omega.{arith}
 use native.Mathlib.Nat.{mul-le-mul-right}
 use Rattle.wire.proofs.Tests.{kept, broken}
-use Rattle.encode.specs.Encoding.{askedRight, givenRight}
+use Rattle.encode.specs.Encoding.{askedRight, tablesGivenRight}
 use borrow.Author.Needs.{needs}
 use Rattle.encode.proofs.Laws.{refused-asked, refused-given, refused-work, refused-none, asked-most}
 use Rattle.encode.proofs.asked_refusal.Statement.{statement}
@@ -14,7 +14,7 @@ use Rattle.encode.proofs.asked_refusal.Tie as tie
 asked : (c : tie.Else2) → let a = c .before .before .before .before .before .args in askedRight (a .count) (a .order) ≡ true
 asked c = kept (c .before .before .before .asked-right .ensures) (c .before .before .if1 .left)
 
-given : (c : tie.Else2) → givenRight (c .before .before .before .before .before .args .section2 .now) ≡ true
+given : (c : tie.Else2) → tablesGivenRight (c .before .before .before .before .before .args .section2 .now) ≡ true
 given c = kept (c .before .given-right .ensures) (c .if2 .left)
 
 asked-right-requires : tie.Need-asked-right-requires

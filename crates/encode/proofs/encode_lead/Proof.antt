@@ -4,9 +4,9 @@ use mathlib.Core.Path.{_≡_, sym, _∙_}
 use mathlib.Core.Bool.{true}
 use lib.ListN.{length}
 use lib.Seq.{length-take-le}
-use Rattle.encode.specs.Encoding.{tablesGiven, givenRight, askedRefusal}
+use Rattle.encode.specs.Encoding.{tablesGiven, tablesGivenRight, askedRefusal}
 use borrow.Author.Needs.{needs}
-use Rattle.encode.proofs.Laws.{asked-none, encoded-refused, encoded-searched}
+use Rattle.encode.proofs.Laws.{asked-none, encoded-refused, encoded-answered}
 use Rattle.encode.proofs.encode_lead.Statement.{statement}
 use Rattle.encode.proofs.encode_lead.Tie as tie
 
@@ -16,7 +16,7 @@ asked : (c : tie.Else1) → let a = c .before .before .before .before .before .a
 asked c = sym (c .before .asked-refusal .ensures) ∙ c .if1 .left
 
 here : (c : tie.Else1) → let a = c .before .before .before .before .before .args in
-    (length (a .xs .now) ≤ 65536) × (givenRight (a .section2 .now) ≡ true)
+    (length (a .xs .now) ≤ 65536) × (tablesGivenRight (a .section2 .now) ≡ true)
     × (length (a .xs .now) * length (tablesGiven (a .section2 .now)) ≤ length (a .work .now))
 here c =
     let a = c .before .before .before .before .before .args in
@@ -78,7 +78,7 @@ returns-2 c =
     let held = c .before .before .before .before .before .before .before .before .before .before in
     let start = held .before .before .before in
     let a = start .before .before .before .before .before .args in
-    encoded-searched (a .section2 .now) (a .xs .now) (a .order) (a .work .now) (a .out .now) (r .result) _ _ _ (asked start)
+    encoded-answered (a .section2 .now) (a .xs .now) (a .order) (a .work .now) (a .out .now) (r .result) _ _ _ (asked start)
     (r .ensures .0 (tablesGiven (a .section2 .now)) (held .hold-tables .ensures .1) (sym t))
     (length-take-le _ _ (inside held) ∙ held .hold-tables .ensures .2) (r .ensures .1)
 

@@ -7,7 +7,7 @@ use native.Mathlib.Omega.{arith}
 use lib.IntN.{pos}
 use lib.ListN.{getD, take}
 use lib.Pow.{pow-pos}
-use Rattle.bits.specs.Bits.{highBits, bitsIn}
+use Rattle.bits.specs.Bits.{highFirst, bitsIn}
 use Rattle.samples.specs.Differences.{differences}
 use Rattle.packing.specs.InnerSink.{Holds}
 use Rattle.shortest.specs.InnerRule.{twos}
@@ -20,7 +20,7 @@ use Rattle.encode.proofs.put_code.Tie as tie
 -- what is held behind the prefix
 held : (c : tie.After-put) → let a = c .before .before .before .args in
     Holds (c .put .last .1 .0) (c .put .result)
-    ((bitsIn (take (a .sink .at) (a .out .now)) ++ highBits (a .sink .part) (a .sink .acc)) ++ highBits (a .f .prefix) (a .f .word))
+    ((bitsIn (take (a .sink .at) (a .out .now)) ++ highFirst (a .sink .part) (a .sink .acc)) ++ highFirst (a .f .prefix) (a .f .word))
 held c =
     let d = c .before .before .before in
     let a = d .args in
@@ -79,7 +79,7 @@ returns-2 c =
     rw (power .ensures) (sym (twos-lower r (value .result) (omega (arith, d .pre .0 .1))) ∙ ap (twos r) (value .ensures .0)) in (
       λ bs h.
           subst (λ (l : List ℕ). Holds (q .last .1 .0) (q .result) l)
-          (append-assoc bs (highBits (a .f .prefix) (a .f .word)) (highBits r (twos r v)))
+          (append-assoc bs (highFirst (a .f .prefix) (a .f .word)) (highFirst r (twos r v)))
           (rw own at (q .ensures .0 _ (p .ensures .0 bs h))),
       q .ensures .1 ∙ p .ensures .1,
       rest-on (a .out .now) (p .last .1 .0) (q .last .1 .0) (p .result) (q .result) _ _ (held first)

@@ -7,7 +7,7 @@ use lib.ListN.{length}
 use borrow.Author.Needs.{needs}
 use borrow.Author.Tests.{le-leb, lt-leb}
 use Rattle.wire.specs.Rules.{allIn}
-use Rattle.entries.specs.Beat.{fiducialOf, zoneCount, zoneRight, section4Right}
+use Rattle.entries.specs.Beat.{fiducialOf, qrsCount, zoneRight, section4Right}
 use Rattle.entries.proofs.section4_right.Statement.{statement}
 use Rattle.entries.proofs.section4_right.Tie as tie
 
@@ -41,7 +41,7 @@ returns-5 : tie.Need-returns-5
 unfolding section4Right
 returns-5 c =
     let s = c .before .before .before .before .before .before .before .before .args .s .now in
-    simp (lt-leb (zoneCount s) 1024 (omega arith), and-false)
+    simp (lt-leb (qrsCount s) 1024 (omega arith), and-false)
 
 mul-if6 : tie.Need-mul-if6
 mul-if6 c = search needs
@@ -53,7 +53,7 @@ returns-6 : tie.Need-returns-6
 unfolding section4Right
 returns-6 c =
     let s = c .before .before .before .before .before .before .before .before .before .args .s .now in
-    simp (lt-leb (22 + 14 * zoneCount s) (length s) (omega arith), and-false)
+    simp (lt-leb (22 + 14 * qrsCount s) (length s) (omega arith), and-false)
 
 zones-right-requires : tie.Need-zones-right-requires
 zones-right-requires c κs = search needs
@@ -69,8 +69,8 @@ returns-7 c =
       le-leb (a .samples) 65536 (omega arith),
       le-leb 1 (fiducialOf s) (omega arith),
       le-leb (fiducialOf s) (a .samples) (omega arith),
-      le-leb (zoneCount s) 1024 (omega arith),
-      le-leb (22 + 14 * zoneCount s) (length s) (omega arith),
+      le-leb (qrsCount s) 1024 (omega arith),
+      le-leb (22 + 14 * qrsCount s) (length s) (omega arith),
     )
     (c .zones-right .ensures ∙ ap (λ (n : ℕ). allIn 0 n (zoneRight (a .samples) s)) (counted .number162 .ensures .0))
 

@@ -6,7 +6,7 @@ use native.Mathlib.Omega.{arith}
 use lib.Dec.{eqb}
 use borrow.Author.Needs.{needs}
 use borrow.Author.Tests.{le-leb, lt-leb, lt-ltb, le-ltb}
-use Rattle.entries.specs.Beat.{fiducialOf, zoneBegin, zoneFiducial, zoneEnd, lastBefore, zoneRight}
+use Rattle.entries.specs.Beat.{fiducialOf, zoneBegin, qrsFiducial, zoneEnd, lastBefore, zoneRight}
 use Rattle.wire.proofs.Tests.{same, differ}
 use Rattle.entries.proofs.zone_right.Statement.{statement}
 use Rattle.entries.proofs.zone_right.Tie as tie
@@ -91,7 +91,7 @@ returns-6 c =
     let s = a .s .now in
     simp (
       same (d1 .before .zone-type .ensures .0) refl (d1 .if1 .left),
-      lt-leb (zoneFiducial s (a .k) + 1) (zoneBegin s (a .k) + fiducialOf s) (omega arith),
+      lt-leb (qrsFiducial s (a .k) + 1) (zoneBegin s (a .k) + fiducialOf s) (omega arith),
       and-false,
     )
 
@@ -112,7 +112,7 @@ returns-7 c =
       le-leb 1 (zoneBegin s (a .k)) (omega arith),
       le-leb (zoneBegin s (a .k)) (zoneEnd s (a .k)) (omega arith),
       lt-ltb (lastBefore s (a .k)) (zoneBegin s (a .k)) (omega arith),
-      le-leb (zoneFiducial s (a .k) + 1) (zoneBegin s (a .k) + fiducialOf s) (omega arith),
+      le-leb (qrsFiducial s (a .k) + 1) (zoneBegin s (a .k) + fiducialOf s) (omega arith),
     )
     (cc)
 

@@ -4,7 +4,7 @@ use mathlib.Core.Path.{_≡_, refl, _∙_}
 use native.Mathlib.Omega.{arith}
 use lib.ListN.{length, getD, take}
 use lib.Seq.{take-length}
-use Rattle.layout.specs.Counts.{byteCounts}
+use Rattle.layout.specs.InnerCounts.{byteCounts}
 use Rattle.layout.proofs.Laws.{Filled, filled-from, filled-number, counts-more}
 use borrow.Author.Needs.{needs}
 use Rattle.layout.proofs.put_counts.Statement.{statement}

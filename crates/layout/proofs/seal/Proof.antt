@@ -1,5 +1,5 @@
 -- The six bytes lent as reserved are 0; around evened data that is the section (`sealed-is`).
-use Rattle.layout.specs.Layout.{noLetters}
+use Rattle.layout.specs.Layout.{zeroReserved}
 use Rattle.layout.proofs.Laws.{sealed-is}
 use borrow.Author.Needs.{needs}
 use Rattle.layout.proofs.seal.Statement.{statement}
@@ -18,7 +18,7 @@ returns : tie.Need-returns
 returns c =
     let a = c .before .before .before .before .before .before .args in
     let e = c .before .before .seal-with .ensures in
-    (e, λ contents d n. rw e (sealed-is (a .id) (a .version) noLetters (a .part .now) contents d n))
+    (e, λ contents d n. rw e (sealed-is (a .id) (a .version) zeroReserved (a .part .now) contents d n))
 
 pub seal-spec : {M : Type 1} → statement M
 seal-spec = tie.close (tie.spec slice-aggregate-seal-with seal-with-requires same-length returns)

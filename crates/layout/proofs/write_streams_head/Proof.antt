@@ -4,7 +4,7 @@ use mathlib.Core.Path.{_≡_, refl, _∙_}
 use mathlib.Core.List.{append-assoc}
 use native.Mathlib.Omega.{arith}
 use lib.ListN.{length, length-set}
-use Rattle.layout.specs.Counts.{byteCounts}
+use Rattle.layout.specs.InnerCounts.{byteCounts}
 use Rattle.layout.proofs.Laws.{filled-from, filled-put, filled-number, filled-store, length-byteCounts}
 use borrow.Author.Needs.{needs}
 use Rattle.layout.proofs.write_streams_head.Statement.{statement}

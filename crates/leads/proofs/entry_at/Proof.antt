@@ -4,7 +4,7 @@ use mathlib.Core.Path.{ap, _∙_}
 use mathlib.Core.List.{List}
 use borrow.Author.Needs.{needs}
 use Rattle.entries.specs.Leads.{flagsOf, firstSample, lastSample, leadId}
-use Rattle.entries.specs.Streams.{stepOf, intervalOf, orderOf, streamBytes}
+use Rattle.entries.specs.Streams.{stepOf, intervalOf, orderOf, byteCountOf}
 use Rattle.leads.proofs.entry_at.Statement.{statement}
 use Rattle.leads.proofs.entry_at.Tie as tie
 
@@ -88,7 +88,7 @@ returns c =
       c .before .before .before .first-sample .ensures .0 ∙ ap (λ (s : List ℕ). firstSample s (a .k)) three,
       c .before .before .last-sample .ensures .0 ∙ ap (λ (s : List ℕ). lastSample s (a .k)) three,
       c .before .leads-of .ensures .0,
-      c .stream-bytes .ensures .0 ∙ ap (λ (s : List ℕ). streamBytes s (a .k)) six,
+      c .stream-bytes .ensures .0 ∙ ap (λ (s : List ℕ). byteCountOf s (a .k)) six,
     )
 
 pub entry-at-spec : {M : Type 1} → statement M

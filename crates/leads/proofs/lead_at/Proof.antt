@@ -6,12 +6,12 @@ use native.Mathlib.Omega.{arith}
 use borrow.Author.Needs.{needs}
 use Rattle.entries.specs.Leads.{flagsOf, firstSample, leadId, sampleCount}
 use Rattle.entries.specs.Streams.{stepOf, intervalOf}
-use Rattle.leads.specs.Leads.{countAt}
+use Rattle.leads.specs.Leads.{sampleCountAt}
 use Rattle.leads.proofs.lead_at.Statement.{statement}
 use Rattle.leads.proofs.lead_at.Tie as tie
 
 -- the count is that of Section 3's entry
-count : (c : tie.After-sample-count) → c .sample-count .result ≡ countAt (c .before .before .before .before .before .before .before .before .before .args .rec .now) (c .before .before .before .before .before .before .before .before .before .args .k)
+count : (c : tie.After-sample-count) → c .sample-count .result ≡ sampleCountAt (c .before .before .before .before .before .before .before .before .before .args .rec .now) (c .before .before .before .before .before .before .before .before .before .args .k)
 count c = c .sample-count .ensures .0 ∙ ap (λ (s : List ℕ). sampleCount s (c .before .before .before .before .before .before .before .before .before .args .k)) (c .before .before .before .before .before .before .before .section-of .ensures)
 
 section-of-requires : tie.Need-section-of-requires

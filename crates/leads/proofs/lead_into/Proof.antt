@@ -9,7 +9,7 @@ use lib.Seq.{length-take-le}
 use borrow.Author.Needs.{needs}
 use Rattle.wire.proofs.Tests.{kept, broken}
 use Rattle.entries.proofs.Laws.{interval-some}
-use Rattle.rules.specs.Rules.{hasBeat, beatCount}
+use Rattle.rules.specs.Rules.{beatSubtracted, beatSampleCount}
 use Rattle.rules.proofs.Laws.{sound-beat}
 use Rattle.leads.specs.Leads.{streamTrace, residual}
 use Rattle.leads.specs.InnerLead.{Readable}
@@ -18,12 +18,13 @@ use Rattle.leads.proofs.lead_into.Statement.{statement}
 use Rattle.leads.proofs.lead_into.Tie as tie
 
 -- a beat was subtracted
-beaten : (c : tie.Else1) → hasBeat (c .before .before .before .before .args .rec .now) ≡ true
+beaten : (c : tie.Else1) → beatSubtracted (c .before .before .before .before .args .rec .now) ≡ true
 beaten c = kept (c .before .has-beat .ensures) (c .if1 .left)
 
 -- and there is work space for it
-enough : (c : tie.After-beat-count) → c .beat-count .result ≤ length (c .before .before .before .before .before .args .work .now)
-enough c = let g = c .before .before .before .before .before .pre .1 .0 .beatRoom (beaten (c .before)) in omega (arith, c .beat-count .ensures .0)
+enough : (c : tie.After-beat-sample-count)
+    → c .beat-sample-count .result ≤ length (c .before .before .before .before .before .args .work .now)
+enough c = let g = c .before .before .before .before .before .pre .1 .0 .beatRoom (beaten (c .before)) in omega (arith, c .beat-sample-count .ensures .0)
 
 has-beat-requires : tie.Need-has-beat-requires
 has-beat-requires c κs = search needs
@@ -45,8 +46,8 @@ returns c =
       rw none refl,
     )
 
-beat-count-requires : tie.Need-beat-count-requires
-beat-count-requires c κs =
+beat-sample-count-requires : tie.Need-beat-sample-count-requires
+beat-sample-count-requires c κs =
     let d = c .before .before .before .before in
     interval-some _ _ (sound-beat (d .args .rec .now) (d .pre .1 .0 .beat) (beaten c) .0)
 
@@ -59,9 +60,10 @@ slice-aggregate-with-beat c = sym (length-take-le _ _ (enough (c .before .before
 with-beat-requires : tie.Need-with-beat-requires
 with-beat-requires c κs =
     let d = c .before .before .before .before .before .before .before in
-    let e = length-take-le (c .before .before .beat-count .result) (d .args .work .now) (enough (c .before .before)) ∙ c .before .before .beat-count .ensures .0 in
+    let e = length-take-le (c .before .before .beat-sample-count .result) (d .args .work .now) (enough (c .before .before)) ∙ c .before .before .beat-sample-count .ensures .0 in
     let s = d .pre .1 .0 in
-    let whole : Readable (d .args .rec .now) (d .args .k) (length (take (c .before .before .beat-count .result) (d .args .work .now))) =
+    let whole : Readable (d .args .rec .now) (d .args .k)
+    (length (take (c .before .before .beat-sample-count .result) (d .args .work .now))) =
     record {
       tables = s .tables;
       beat = s .beat;
@@ -98,7 +100,7 @@ lead-into-spec =
     stream-into-requires
     same-length
     returns
-    beat-count-requires
+    beat-sample-count-requires
     slice-relend-prefix-with-beat
     slice-aggregate-with-beat
     with-beat-requires

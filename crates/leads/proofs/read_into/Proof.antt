@@ -7,12 +7,12 @@ use lib.ListN.{length, take}
 use lib.Seq.{length-take-le}
 use borrow.Author.Needs.{needs}
 use Rattle.entries.specs.Leads.{sampleCount}
-use Rattle.leads.specs.Leads.{countAt}
+use Rattle.leads.specs.Leads.{sampleCountAt}
 use Rattle.leads.proofs.read_into.Statement.{statement}
 use Rattle.leads.proofs.read_into.Tie as tie
 
 -- the count is that of Section 3's entry
-count : (c : tie.After-sample-count) → c .sample-count .result ≡ countAt (c .before .before .before .before .before .before .before .args .rec .now) (c .before .before .before .before .before .before .before .args .k)
+count : (c : tie.After-sample-count) → c .sample-count .result ≡ sampleCountAt (c .before .before .before .before .before .before .before .args .rec .now) (c .before .before .before .before .before .before .before .args .k)
 count c = c .sample-count .ensures .0 ∙ ap (λ (s : List ℕ). sampleCount s (c .before .before .before .before .before .before .before .args .k)) (c .before .section-of .ensures)
 
 table-room-requires : tie.Need-table-room-requires

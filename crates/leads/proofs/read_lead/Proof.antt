@@ -4,9 +4,9 @@ use mathlib.Core.Path.{_≡_, sym, ap, _∙_}
 use native.Mathlib.Omega.{arith}
 use lib.ListN.{length}
 use borrow.Author.Needs.{needs}
-use Rattle.rules.specs.Rules.{hasBeat}
+use Rattle.rules.specs.Rules.{beatSubtracted}
 use Rattle.samples.specs.Trace.{Trace}
-use Rattle.leads.specs.Leads.{countAt, readTrace, traceAt}
+use Rattle.leads.specs.Leads.{sampleCountAt, readTrace, traceAt}
 use Rattle.leads.specs.InnerLead.{Readable, clearedIf}
 use Rattle.leads.specs.Answers.{leadOf, outAfter, workAfter}
 use Rattle.leads.proofs.Laws.{read-refused, read-on, work-refused, work-read, readable, trace-length, trace-fault, trace-rebuilt}
@@ -15,7 +15,7 @@ use Rattle.leads.proofs.read_lead.Tie as tie
 
 -- none of 1 to 11 applies
 here : (c : tie.Else1) → let a = c .before .before .before .args in
-    (1 ≤ a .place) × Readable (a .rec .now) (a .place - 1) (length (a .work .now)) × (countAt (a .rec .now) (a .place - 1) ≤ length (a .out .now))
+    (1 ≤ a .place) × Readable (a .rec .now) (a .place - 1) (length (a .work .now)) × (sampleCountAt (a .rec .now) (a .place - 1) ≤ length (a .out .now))
 here c =
     let a = c .before .before .before .args in
     readable (a .rec .now) (a .place) (length (a .out .now)) (length (a .work .now)) (sym (c .before .read-refusal .ensures) ∙ c .if1 .left)
@@ -29,7 +29,7 @@ read c =
 
 -- and the work space is as the reading leaves it
 cleared : (c : tie.Else1) → let a = c .before .before .before .args in
-    clearedIf (hasBeat (a .rec .now)) (a .work .now) ≡ workAfter (a .rec .now) (a .place) (length (a .out .now)) (a .work .now)
+    clearedIf (beatSubtracted (a .rec .now)) (a .work .now) ≡ workAfter (a .rec .now) (a .place) (length (a .out .now)) (a .work .now)
 cleared c =
     let a = c .before .before .before .args in
     work-read (a .rec .now) (a .place) (length (a .out .now)) (c .before .read-refusal .result) (a .work .now) (c .before .read-refusal .ensures) (c .if1 .left)

@@ -10,14 +10,14 @@ use borrow.Author.Tests.{le-leb, lt-leb}
 use Rattle.wire.proofs.Tests.{kept, broken}
 use Rattle.entries.specs.Leads.{sampleCount}
 use Rattle.entries.proofs.Laws.{leads-right, interval-some}
-use Rattle.rules.specs.Rules.{beatCount}
+use Rattle.rules.specs.Rules.{beatSampleCount}
 use Rattle.rules.proofs.Laws.{Sound, sound, sound-beat}
-use Rattle.leads.specs.Leads.{countAt, roomRight}
+use Rattle.leads.specs.Leads.{sampleCountAt, roomRight}
 use Rattle.leads.proofs.room_right.Statement.{statement}
 use Rattle.leads.proofs.room_right.Tie as tie
 
 -- the count is that of Section 3's entry
-count : (c : tie.After-sample-count) → let a = c .before .before .before .args in c .sample-count .result ≡ countAt (a .rec .now) (a .place - 1)
+count : (c : tie.After-sample-count) → let a = c .before .before .before .args in c .sample-count .result ≡ sampleCountAt (a .rec .now) (a .place - 1)
 count c =
     let a = c .before .before .before .args in
     c .sample-count .ensures .0 ∙ ap (λ (s : List ℕ). sampleCount s (a .place - 1)) (c .before .section-of .ensures)
@@ -38,13 +38,14 @@ returns : tie.Need-returns
 unfolding roomRight
 returns c =
     let a = c .before .before .before .before .args in
-    simp (lt-leb (countAt (a .rec .now) (a .place - 1)) (a .out) (omega (arith, count (c .before), c .if1 .taken)))
+    simp (lt-leb (sampleCountAt (a .rec .now) (a .place - 1)) (a .out) (omega (arith, count (c .before), c .if1 .taken)))
 
 -- the output is long enough
-enough : (c : tie.Else1) → let a = c .before .before .before .before .args in leb (countAt (a .rec .now) (a .place - 1)) (a .out) ≡ true
+enough : (c : tie.Else1) → let a = c .before .before .before .before .args in
+    leb (sampleCountAt (a .rec .now) (a .place - 1)) (a .out) ≡ true
 enough c =
     let a = c .before .before .before .before .args in
-    le-leb (countAt (a .rec .now) (a .place - 1)) (a .out) (omega (arith, count (c .before), c .if1 .left))
+    le-leb (sampleCountAt (a .rec .now) (a .place - 1)) (a .out) (omega (arith, count (c .before), c .if1 .left))
 
 has-beat-requires : tie.Need-has-beat-requires
 has-beat-requires c κs = search needs
@@ -53,8 +54,8 @@ returns-2 : tie.Need-returns-2
 unfolding roomRight
 returns-2 c = simp (enough (c .before .before), broken (c .before .has-beat .ensures) (c .if2 .taken))
 
-beat-count-requires : tie.Need-beat-count-requires
-beat-count-requires c κs =
+beat-sample-count-requires : tie.Need-beat-sample-count-requires
+beat-sample-count-requires c κs =
     let d = c .before .before .before .before .before .before in
     let r = d .args .rec .now in
     interval-some _ _ (sound-beat r (sound r (d .args .place) (d .pre) .beat) (kept (c .before .has-beat .ensures) (c .if2 .left)) .0)
@@ -63,15 +64,15 @@ returns-3 : tie.Need-returns-3
 unfolding roomRight
 returns-3 c =
     let a = c .before .before .before .before .before .before .before .before .args in
-    let e = c .before .beat-count .ensures .0 in
-    simp (enough (c .before .before .before .before), kept (c .before .before .before .has-beat .ensures) (c .before .before .if2 .left), lt-leb (beatCount (a .rec .now)) (a .work) (omega arith))
+    let e = c .before .beat-sample-count .ensures .0 in
+    simp (enough (c .before .before .before .before), kept (c .before .before .before .has-beat .ensures) (c .before .before .if2 .left), lt-leb (beatSampleCount (a .rec .now)) (a .work) (omega arith))
 
 returns-4 : tie.Need-returns-4
 unfolding roomRight
 returns-4 c =
     let a = c .before .before .before .before .before .before .before .before .args in
-    let e = c .before .beat-count .ensures .0 in
-    simp (enough (c .before .before .before .before), kept (c .before .before .before .has-beat .ensures) (c .before .before .if2 .left), le-leb (beatCount (a .rec .now)) (a .work) (omega arith))
+    let e = c .before .beat-sample-count .ensures .0 in
+    simp (enough (c .before .before .before .before), kept (c .before .before .before .has-beat .ensures) (c .before .before .if2 .left), le-leb (beatSampleCount (a .rec .now)) (a .work) (omega arith))
 
 pub room-right-spec : {M : Type 1} → statement M
 room-right-spec =
@@ -83,6 +84,6 @@ room-right-spec =
     returns
     has-beat-requires
     returns-2
-    beat-count-requires
+    beat-sample-count-requires
     returns-3
     returns-4)

@@ -6,7 +6,7 @@ use borrow.Author.Needs.{needs}
 use Rattle.pointers.specs.Pointers.{sectionOf}
 use Rattle.entries.specs.Streams.{streamsRight}
 use Rattle.entries.specs.Beat.{section4Right}
-use Rattle.rules.specs.Rules.{leadsOf, beatRight}
+use Rattle.rules.specs.Rules.{leadCountOf, beatRight}
 use Rattle.wire.proofs.Tests.{kept, broken}
 use Rattle.entries.proofs.Laws.{interval-some}
 use Rattle.rules.proofs.beat_right.Statement.{statement}
@@ -15,7 +15,7 @@ use Rattle.rules.proofs.beat_right.Tie as tie
 -- the streams that are judged are Section 5's, for the leads of Section 3
 asked : (c : tie.After-streams-right) →
     let r = c .before .before .before .before .before .before .before .before .before .args .rec .now in
-    c .streams-right .result ≡ streamsRight (leadsOf r) (sectionOf r 5)
+    c .streams-right .result ≡ streamsRight (leadCountOf r) (sectionOf r 5)
 asked c =
     let n = c .before .before .before .before .before .before .before .before .before .pre .0 in
     c .streams-right .ensures ∙ ap₂ streamsRight n (c .before .section-of .ensures)
@@ -60,11 +60,11 @@ returns-4 c =
 section-of-requires-2 : tie.Need-section-of-requires-2
 section-of-requires-2 c κs = search needs
 
-beat-count-requires : tie.Need-beat-count-requires
-beat-count-requires c κs =
+beat-sample-count-requires : tie.Need-beat-sample-count-requires
+beat-sample-count-requires c κs =
     let d4 = c .before in
     let r = d4 .before .before .before .before .before .before .before .before .before .before .args .rec .now in
-    interval-some (leadsOf r) (sectionOf r 5) (kept (asked (d4 .before)) (d4 .if4 .left))
+    interval-some (leadCountOf r) (sectionOf r 5) (kept (asked (d4 .before)) (d4 .if4 .left))
 
 section4-right-requires : tie.Need-section4-right-requires
 section4-right-requires c κs = search needs
@@ -82,7 +82,7 @@ returns-5 c =
       kept (d3 .before .is-present2 .ensures) (d3 .if3 .left),
       kept (asked (d4 .before)) (d4 .if4 .left),
     )
-    (c .section4-right .ensures ∙ ap₂ section4Right (c .before .beat-count .ensures .0) (c .before .before .section-of2 .ensures))
+    (c .section4-right .ensures ∙ ap₂ section4Right (c .before .beat-sample-count .ensures .0) (c .before .before .section-of2 .ensures))
 
 pub beat-right-spec : {M : Type 1} → statement M
 beat-right-spec =
@@ -98,6 +98,6 @@ beat-right-spec =
     streams-right-requires
     returns-4
     section-of-requires-2
-    beat-count-requires
+    beat-sample-count-requires
     section4-right-requires
     returns-5)

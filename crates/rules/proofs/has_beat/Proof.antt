@@ -6,7 +6,7 @@ use mathlib.Core.List.{List}
 use borrow.Author.Needs.{needs}
 use Rattle.pointers.specs.Pointers.{sectionOf}
 use Rattle.entries.specs.Leads.{flagsOf}
-use Rattle.rules.specs.Rules.{hasBeat}
+use Rattle.rules.specs.Rules.{beatSubtracted}
 use Rattle.wire.proofs.Tests.{kept, broken, same, differ}
 use Rattle.rules.proofs.has_beat.Statement.{statement}
 use Rattle.rules.proofs.has_beat.Tie as tie
@@ -20,7 +20,7 @@ is-present-requires : tie.Need-is-present-requires
 is-present-requires c κs = search needs
 
 returns : tie.Need-returns
-unfolding hasBeat
+unfolding beatSubtracted
 returns c = simp (broken (c .before .is-present .ensures) (c .if1 .taken))
 
 section-of-requires : tie.Need-section-of-requires
@@ -30,11 +30,11 @@ byte-requires : tie.Need-byte-requires
 byte-requires c κs = search needs
 
 returns-2 : tie.Need-returns-2
-unfolding hasBeat
+unfolding beatSubtracted
 returns-2 c = simp (differ (flag (c .before)) refl (c .if2 .taken), and-false)
 
 returns-3 : tie.Need-returns-3
-unfolding hasBeat
+unfolding beatSubtracted
 returns-3 c =
     let d = c .before .before .before in
     simp (kept (d .before .is-present .ensures) (d .if1 .left), same (flag (c .before)) refl (c .if2 .left))

@@ -3,7 +3,7 @@ use mathlib.Core.Bool.{and-false}
 use native.Mathlib.Omega.{arith}
 use borrow.Author.Needs.{needs}
 use borrow.Author.Tests.{le-leb, lt-leb}
-use Rattle.rules.specs.Rules.{leadsOf, hasLead}
+use Rattle.rules.specs.Rules.{leadCountOf, hasLead}
 use Rattle.wire.proofs.Tests.{kept, broken}
 use Rattle.rules.proofs.has_lead.Statement.{statement}
 use Rattle.rules.proofs.has_lead.Tie as tie
@@ -35,7 +35,7 @@ returns-4 : tie.Need-returns-4
 unfolding hasLead
 returns-4 c =
     let a = c .before .before .before .before .before .before .before .before .args in
-    simp (lt-leb (a .place) (leadsOf (a .rec .now)) (omega arith), and-false)
+    simp (lt-leb (a .place) (leadCountOf (a .rec .now)) (omega arith), and-false)
 
 returns-5 : tie.Need-returns-5
 unfolding hasLead
@@ -47,7 +47,7 @@ returns-5 c =
       kept (d1 .before .is-present .ensures) (d1 .if1 .left),
       kept (d2 .before .is-present2 .ensures) (d2 .if2 .left),
       le-leb 1 (a .place) (omega arith),
-      le-leb (a .place) (leadsOf (a .rec .now)) (omega arith),
+      le-leb (a .place) (leadCountOf (a .rec .now)) (omega arith),
     )
 
 pub has-lead-spec : {M : Type 1} → statement M

@@ -4,7 +4,7 @@ use mathlib.Core.Path.{_≡_}
 use mathlib.Core.List.{List}
 use borrow.Author.Needs.{needs}
 use Rattle.wire.specs.Rules.{unless}
-use Rattle.rules.specs.Rules.{tablesRight, leadsRight, agrees, hasLead, leadRefusal}
+use Rattle.rules.specs.Rules.{tablesRight, sections3To6Right, agrees, hasLead, leadRefusal}
 use Rattle.wire.proofs.Tests.{kept, broken}
 use Rattle.record.proofs.Laws.{opened, refused}
 use Rattle.rules.proofs.lead_refusal.Statement.{statement}
@@ -18,7 +18,7 @@ abbrev from9 : List ℕ → ℕ → ℕ
 from9 r place = unless (agrees r) 9 (from10 r place)
 
 abbrev from8 : List ℕ → ℕ → ℕ
-from8 r place = unless (leadsRight r) 8 (from9 r place)
+from8 r place = unless (sections3To6Right r) 8 (from9 r place)
 
 abbrev from7 : List ℕ → ℕ → ℕ
 from7 r place = unless (tablesRight r) 7 (from8 r place)

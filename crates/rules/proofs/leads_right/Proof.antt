@@ -7,7 +7,7 @@ use native.Mathlib.Omega.{arith}
 use borrow.Author.Needs.{needs}
 use Rattle.pointers.specs.Pointers.{sectionOf}
 use Rattle.entries.specs.Leads.{section3Right}
-use Rattle.rules.specs.Rules.{leadsOf, leadsRight}
+use Rattle.rules.specs.Rules.{leadCountOf, sections3To6Right}
 use Rattle.wire.proofs.Tests.{kept, broken}
 use Rattle.entries.proofs.Laws as entries
 use Rattle.rules.proofs.leads_right.Statement.{statement}
@@ -21,7 +21,7 @@ asked c = c .section3-right .ensures ∙ ap section3Right (c .before .section-of
 -- and its leads are few
 counted : (c : tie.After-leads-of) →
     let r = c .before .before .before .before .before .before .before .args .rec .now in
-    (c .leads-of .result ≡ leadsOf r) × (c .leads-of .result ≤ 32)
+    (c .leads-of .result ≡ leadCountOf r) × (c .leads-of .result ≤ 32)
 counted c =
     let d = c .before in
     let r = d .before .before .before .before .before .before .args .rec .now in
@@ -35,13 +35,13 @@ is-present-requires-2 : tie.Need-is-present-requires-2
 is-present-requires-2 c κs = search needs
 
 returns : tie.Need-returns
-unfolding leadsRight
+unfolding sections3To6Right
 returns c =
     let d = c .before .before in
     simp (broken (d .before .is-present .ensures) (d .if1 .taken), sym (c .before .is-present2 .ensures) ∙ c .if2 .taken)
 
 returns-2 : tie.Need-returns-2
-unfolding leadsRight
+unfolding sections3To6Right
 returns-2 c =
     let d = c .before .before in
     simp (broken (d .before .is-present .ensures) (d .if1 .taken), sym (c .before .is-present2 .ensures) ∙ c .if2 .left)
@@ -53,7 +53,7 @@ section3-right-requires : tie.Need-section3-right-requires
 section3-right-requires c κs = search needs
 
 returns-3 : tie.Need-returns-3
-unfolding leadsRight
+unfolding sections3To6Right
 returns-3 c =
     let d1 = c .before .before .before in
     simp (kept (d1 .before .is-present .ensures) (d1 .if1 .left), broken (asked (c .before)) (c .if3 .taken))
@@ -65,7 +65,7 @@ beat-right-requires : tie.Need-beat-right-requires
 beat-right-requires c κs = counted c
 
 returns-4 : tie.Need-returns-4
-unfolding leadsRight
+unfolding sections3To6Right
 returns-4 c =
     let d1 = c .before .before .before .before .before .before in
     simp (kept (d1 .before .is-present .ensures) (d1 .if1 .left), broken (c .before .beat-right .ensures) (c .if4 .taken), and-false)
@@ -74,7 +74,7 @@ rhythm-right-requires : tie.Need-rhythm-right-requires
 rhythm-right-requires c κs = counted (c .before .before)
 
 returns-5 : tie.Need-returns-5
-unfolding leadsRight
+unfolding sections3To6Right
 returns-5 c =
     let d4 = c .before in
     let d3 = d4 .before .before .before in

@@ -2,7 +2,7 @@
 use mathlib.Core.Path.{ap₂, _∙_}
 use borrow.Author.Needs.{needs}
 use Rattle.entries.specs.Streams.{section6Right}
-use Rattle.rules.specs.Rules.{rhythmRight}
+use Rattle.rules.specs.Rules.{section6Kept}
 use Rattle.wire.proofs.Tests.{kept, broken}
 use Rattle.rules.proofs.rhythm_right.Statement.{statement}
 use Rattle.rules.proofs.rhythm_right.Tie as tie
@@ -11,7 +11,7 @@ is-present-requires : tie.Need-is-present-requires
 is-present-requires c κs = search needs
 
 returns : tie.Need-returns
-unfolding rhythmRight
+unfolding section6Kept
 returns c = simp (broken (c .before .is-present .ensures) (c .if1 .taken))
 
 section-of-requires : tie.Need-section-of-requires
@@ -21,7 +21,7 @@ section6-right-requires : tie.Need-section6-right-requires
 section6-right-requires c κs = search needs
 
 returns-2 : tie.Need-returns-2
-unfolding rhythmRight
+unfolding section6Kept
 returns-2 c =
     let d = c .before .before in
     let n = d .before .before .before .pre .0 in

@@ -6,14 +6,14 @@ use Rattle.scp.specs.Answers.{oneIf}
 use Rattle.scp.proofs.scp_breaks.Statement.{statement}
 use Rattle.scp.proofs.scp_breaks.Tie as tie
 
-keeps-requires : tie.Need-keeps-requires
-keeps-requires c κs = search needs
+row-kept-requires : tie.Need-row-kept-requires
+row-kept-requires c κs = search needs
 
 returns : tie.Need-returns
-returns c = sym (ap (λ (b : Bool). oneIf (not b)) (sym (c .before .keeps .ensures) ∙ c .if1 .taken))
+returns c = sym (ap (λ (b : Bool). oneIf (not b)) (sym (c .before .row-kept .ensures) ∙ c .if1 .taken))
 
 returns-2 : tie.Need-returns-2
-returns-2 c = sym (ap (λ (b : Bool). oneIf (not b)) (sym (c .before .keeps .ensures) ∙ c .if1 .left))
+returns-2 c = sym (ap (λ (b : Bool). oneIf (not b)) (sym (c .before .row-kept .ensures) ∙ c .if1 .left))
 
 pub scp-breaks-spec : {M : Type 1} → statement M
-scp-breaks-spec = tie.close (tie.spec keeps-requires returns returns-2)
+scp-breaks-spec = tie.close (tie.spec row-kept-requires returns returns-2)

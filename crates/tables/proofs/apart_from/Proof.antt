@@ -3,8 +3,9 @@ use mathlib.Core.Path.{_≡_, refl, sym, ap, _∙_}
 use Prim.Native.Nat.{_+_, _*_}
 use native.Mathlib.Omega.{arith}
 use borrow.Author.Needs.{needs}
-use Rattle.tables.specs.Structures.{structuresAt, apart, every}
+use Rattle.tables.specs.Structures.{structuresAt, apart}
 use Rattle.wire.proofs.Tests.{kept, broken}
+use Rattle.wire.specs.Rules.{every}
 use Rattle.tables.proofs.Laws.{every-miss, every-step, every-end, structures-cons, structures-none}
 use Rattle.tables.proofs.apart_from.Statement.{statement}
 use Rattle.tables.proofs.apart_from.Tie as tie

@@ -4,8 +4,9 @@ use Prim.Native.Nat.{_+_, _-_, _*_, _≤_}
 use native.Mathlib.Omega.{arith}
 use borrow.Author.Needs.{needs}
 use Rattle.tables.specs.declared.Structure.{Structure}
-use Rattle.tables.specs.Structures.{structuresAt, apart, every, prefixFree}
+use Rattle.tables.specs.Structures.{structuresAt, apart, prefixFree}
 use Rattle.wire.proofs.Tests.{kept, broken}
+use Rattle.wire.specs.Rules.{every}
 use Rattle.tables.proofs.Laws.{structures-cons, structures-none}
 use Rattle.tables.proofs.is_prefix_free.Statement.{statement}
 use Rattle.tables.proofs.is_prefix_free.Tie as tie

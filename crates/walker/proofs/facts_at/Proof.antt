@@ -1,7 +1,7 @@
 -- The step is taken apart.
 use mathlib.Core.Path.{sym, ap, _∙_}
 use borrow.Author.Needs.{needs}
-use Rattle.walker.specs.Walk.{factsOf}
+use Rattle.walker.specs.InnerWalk.{factsOf}
 use Rattle.walker.proofs.facts_at.Statement.{statement}
 use Rattle.walker.proofs.facts_at.Tie as tie
 

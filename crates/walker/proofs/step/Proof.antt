@@ -43,7 +43,7 @@ use denote.Exit.{yes}
 use denote.Triple.Clauses.{ensured, lasts}
 use Rattle.header.specs.declared.Step.{Step}
 use Rattle.header.specs.Fields.{stepAt}
-use Rattle.walker.specs.Walk.{shownStart, shownBytes, factsOf}
+use Rattle.walker.specs.Walk.{shownStart, shownBytes}
 use Rattle.walker.specs.declared.Walker.{Walker}
 use Rattle.walker.specs.declared.Facts.{Facts}
 use Rattle.walker.specs.declared.Shown.{Shown}
@@ -62,6 +62,7 @@ use Rattle.walker.proofs.bytes_at.Symbol as bytes-at-def
 use Rattle.walker.proofs.bytes_at.Symbol.{name as #walker·bytes-at}
 use Rattle.walker.proofs.bytes_at.Met as bytes-at-thm
 use Rattle.walker.proofs.step.Key.{name as #walker·step}
+use Rattle.walker.specs.InnerWalk.{factsOf}
 use Rattle.walker.proofs.step as step
 use Rattle.walker.proofs.step.Statement as stated
 use Rattle.walker.proofs.step.Code as code

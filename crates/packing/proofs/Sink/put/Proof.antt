@@ -6,7 +6,7 @@ use native.Mathlib.Omega.{arith}
 use borrow.Author.Needs.{needs}
 use lib.ListN.{length, take, drop, length-set}
 use lib.Pow.{pow-pos, pow-mono}
-use Rattle.bits.specs.Bits.{highBits, bitsIn}
+use Rattle.bits.specs.Bits.{highFirst, bitsIn}
 use Rattle.packing.proofs.Sinks.{word-room, byte-more, byte-rest, put-all}
 use Rattle.packing.proofs.Sink.put.Statement.{statement}
 use Rattle.packing.proofs.Sink.put.Tie as tie
@@ -17,7 +17,7 @@ Inv-loop out₀ word n at₀ part₀ acc out at part =
     × (at * 8 + part ≡ at₀ * 8 + part₀)
     × (length out ≡ length out₀)
     × (drop at out ≡ drop at out₀)
-    × (bitsIn (take at out) ++ highBits part acc ≡ bitsIn (take at₀ out₀) ++ highBits part₀ acc)
+    × (bitsIn (take at out) ++ highFirst part acc ≡ bitsIn (take at₀ out₀) ++ highFirst part₀ acc)
 
 abbrev μ-loop : tie.MeasureT-loop
 μ-loop out₀ word n at₀ part₀ acc out at part = part

@@ -4,9 +4,9 @@ use mathlib.Core.Path.{refl}
 use native.Mathlib.Nat.{div-le-self}
 use native.Mathlib.Omega.{arith}
 use borrow.Author.Needs.{needs}
-use Rattle.entries.specs.Beat.{beatSamples}
-use Rattle.entries.proofs.beat_samples.Statement.{statement}
-use Rattle.entries.proofs.beat_samples.Tie as tie
+use Rattle.entries.specs.Beat.{samplesInBeat}
+use Rattle.entries.proofs.samples_in_beat.Statement.{statement}
+use Rattle.entries.proofs.samples_in_beat.Tie as tie
 
 mul-result : tie.Need-mul-result
 mul-result c = search needs
@@ -15,8 +15,8 @@ div-result : tie.Need-div-result
 div-result c = search needs
 
 returns : tie.Need-returns
-unfolding beatSamples
+unfolding samplesInBeat
 returns c = (refl, omega (arith, div-le-self (1000 * c .args .ms) (c .args .interval)))
 
-pub beat-samples-spec : {M : Type 1} → statement M
-beat-samples-spec = tie.close (tie.spec mul-result div-result returns)
+pub samples-in-beat-spec : {M : Type 1} → statement M
+samples-in-beat-spec = tie.close (tie.spec mul-result div-result returns)

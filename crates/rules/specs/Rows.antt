@@ -4,16 +4,16 @@ use mathlib.Core.Bool.{Bool, true, cond}
 use mathlib.Core.List.{List}
 use lib.Dec.{eqb}
 use Rattle.record.specs.Rules.{lengthRight, recordCheckRight, section0Right, allPlacedRight, checksRight, fieldsRight}
-use Rattle.rules.specs.Rules.{tablesRight, leadsRight, agrees}
+use Rattle.rules.specs.Rules.{tablesRight, sections3To6Right, agrees}
 
 -- whether the rule of a row from 1 to 9 is kept: 01's row for bytes that keep every row before it; of other bytes the answer says
 -- nothing of a record. Row 0 and rows over 9 answer true: none of them is a rule on a record's bytes alone
-unfoldable pub keeps : List ℕ → ℕ → Bool
-keeps r row =
+unfoldable pub rowKept : List ℕ → ℕ → Bool
+rowKept r row =
     cond (eqb row 1) (lengthRight r)
     (cond (eqb row 2) (recordCheckRight r)
     (cond (eqb row 3) (section0Right r)
     (cond (eqb row 4) (allPlacedRight r)
     (cond (eqb row 5) (checksRight r)
     (cond (eqb row 6) (fieldsRight r)
-    (cond (eqb row 7) (tablesRight r) (cond (eqb row 8) (leadsRight r) (cond (eqb row 9) (agrees r) true))))))))
+    (cond (eqb row 7) (tablesRight r) (cond (eqb row 8) (sections3To6Right r) (cond (eqb row 9) (agrees r) true))))))))

@@ -6,10 +6,10 @@ use native.Mathlib.Omega.{arith}
 use borrow.Author.Needs.{needs}
 use Rattle.pointers.specs.Pointers.{sectionOf}
 use Rattle.entries.specs.Streams.{intervalOf}
-use Rattle.entries.specs.Beat.{beatLength, beatSamples}
-use Rattle.rules.specs.Rules.{beatCount}
-use Rattle.rules.proofs.beat_count.Statement.{statement}
-use Rattle.rules.proofs.beat_count.Tie as tie
+use Rattle.entries.specs.Beat.{beatLength, samplesInBeat}
+use Rattle.rules.specs.Rules.{beatSampleCount}
+use Rattle.rules.proofs.beat_sample_count.Statement.{statement}
+use Rattle.rules.proofs.beat_sample_count.Tie as tie
 
 -- the interval is Section 5's
 interval : (c : tie.After-number162) →
@@ -28,25 +28,25 @@ section-of-requires-2 c κs = search needs
 number16-requires-2 : tie.Need-number16-requires-2
 number16-requires-2 c κs = search needs
 
-beat-samples-requires : tie.Need-beat-samples-requires
-beat-samples-requires c κs =
+samples-in-beat-requires : tie.Need-samples-in-beat-requires
+samples-in-beat-requires c κs =
     let e = interval c in
     (c .before .before .number16 .ensures .1, omega arith)
 
 returns : tie.Need-returns
-unfolding beatCount
+unfolding beatSampleCount
 returns c =
     let d = c .before .before .before in
     let ms = d .number16 .ensures .0 ∙ ap (λ (s : List ℕ). beatLength s) (d .before .section-of .ensures) in
-    (c .beat-samples .ensures .0 ∙ ap₂ beatSamples ms (interval (c .before)), c .beat-samples .ensures .1)
+    (c .samples-in-beat .ensures .0 ∙ ap₂ samplesInBeat ms (interval (c .before)), c .samples-in-beat .ensures .1)
 
-pub beat-count-spec : {M : Type 1} → statement M
-beat-count-spec =
+pub beat-sample-count-spec : {M : Type 1} → statement M
+beat-sample-count-spec =
     tie.close
     (tie.spec
     section-of-requires
     number16-requires
     section-of-requires-2
     number16-requires-2
-    beat-samples-requires
+    samples-in-beat-requires
     returns)
