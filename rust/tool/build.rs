@@ -36,8 +36,8 @@ fn watch(top: &Path) {
 fn commit(top: &Path) -> Option<String> {
     // this folder's own, and not that of one around it
     let git = |words: &[&str]| {
-        let folders = ["--git-dir=.git", "--work-tree=."];
-        said(top, "git", &[&folders, words].concat())
+        let folder = ["--no-optional-locks", "--git-dir=.git", "--work-tree=."];
+        said(top, "git", &[&folder, words].concat())
     };
     let commit = git(&["rev-parse", "--short", "HEAD"])?;
     let status = [&["status", "--porcelain", "--"][..], &SOURCES].concat();

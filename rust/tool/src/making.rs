@@ -5,6 +5,9 @@ use scp::{Job, Refusal};
 /// The bytes of a section's header.
 pub const HEADER: usize = 16;
 
+/// The number of tables that means the default table.
+pub const DEFAULT_TABLE: u16 = 19_999;
+
 /// What a record is made of.
 #[derive(Debug, Default, PartialEq)]
 pub struct Making {

@@ -20,47 +20,49 @@ pub fn section(id: u16) -> &'static str {
     }
 }
 
+/// What the fields of Section 1 hold, by their tags from 0.
+const FIELDS: [&str; 36] = [
+    "last name",
+    "first name",
+    "patient identifier",
+    "second last name",
+    "age",
+    "date of birth",
+    "height",
+    "weight",
+    "sex",
+    "race",
+    "drug",
+    "systolic pressure",
+    "diastolic pressure",
+    "reason for referral",
+    "recording device",
+    "analysing device",
+    "recording institution",
+    "analysing institution",
+    "recording department",
+    "analysing department",
+    "referring physician",
+    "confirming physician",
+    "technician",
+    "room",
+    "urgency",
+    "date of recording",
+    "time of recording",
+    "high-pass filter",
+    "low-pass filter",
+    "other filters",
+    "remark",
+    "sequence number",
+    "history as codes",
+    "electrode placement",
+    "time zone",
+    "history as text",
+];
+
 /// What a field of Section 1 holds.
 pub fn field(tag: u8) -> &'static str {
-    match tag {
-        0 => "last name",
-        1 => "first name",
-        2 => "patient identifier",
-        3 => "second last name",
-        4 => "age",
-        5 => "date of birth",
-        6 => "height",
-        7 => "weight",
-        8 => "sex",
-        9 => "race",
-        10 => "drug",
-        11 => "systolic pressure",
-        12 => "diastolic pressure",
-        13 => "reason for referral",
-        14 => "recording device",
-        15 => "analysing device",
-        16 => "recording institution",
-        17 => "analysing institution",
-        18 => "recording department",
-        19 => "analysing department",
-        20 => "referring physician",
-        21 => "confirming physician",
-        22 => "technician",
-        23 => "room",
-        24 => "urgency",
-        25 => "date of recording",
-        26 => "time of recording",
-        27 => "high-pass filter",
-        28 => "low-pass filter",
-        29 => "other filters",
-        30 => "remark",
-        31 => "sequence number",
-        32 => "history as codes",
-        33 => "electrode placement",
-        34 => "time zone",
-        35 => "history as text",
-        _ => "other",
-    }
+    FIELDS.get(usize::from(tag)).copied().unwrap_or("other")
 }
 
 /// The IDs of the leads that a lead of calibration stands for: those 31 to 60 for 1 to 30, and 79 to 85 for 66 to 72.
@@ -77,12 +79,20 @@ pub fn lead(id: u8) -> String {
     if let Some(lead) = calibrated(id) {
         return format!("{}-cal", self::lead(lead));
     }
-    let name = match id {
+    match id {
+        3..=9 => format!("V{}", id - 2),
+        10..=15 => format!("V{}R", id - 8),
+        75..=78 => format!("A{}", id - 74),
+        id => named(id).to_string(),
+    }
+}
+
+/// The name of a lead that is not one of several in a row.
+fn named(id: u8) -> &'static str {
+    match id {
         0 => "unspecified",
         1 => "I",
         2 => "II",
-        3..=9 => return format!("V{}", id - 2),
-        10..=15 => return format!("V{}R", id - 8),
         16 => "X",
         17 => "Y",
         18 => "Z",
@@ -112,11 +122,9 @@ pub fn lead(id: u8) -> String {
         72 => "Nehb J",
         73 => "defibrillator",
         74 => "external pacing",
-        75..=78 => return format!("A{}", id - 74),
         100..=255 => "maker's own",
         _ => "not defined",
-    };
-    name.to_string()
+    }
 }
 
 /// The head of a lead's column in a table of samples: its place and name, and what a sample of 1 stands for.

@@ -39,6 +39,13 @@ impl Output {
         self.write(|to| writeln!(to, "{line}"));
     }
 
+    /// Writes lines.
+    pub fn lines(&mut self, lines: impl IntoIterator<Item = impl Display>) {
+        for line in lines {
+            self.line(line);
+        }
+    }
+
     /// Writes by a function that takes what it writes to.
     pub fn write(&mut self, write: impl FnOnce(&mut BufWriter<Stdout>) -> io::Result<()>) {
         self.began = true;

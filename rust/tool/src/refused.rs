@@ -25,9 +25,7 @@ pub fn show(file: &Path, input: &Input, refusal: Refusal, output: &mut Output) {
 /// Shows a refusal where the lead at a place was asked for.
 pub fn show_asked(file: &Path, input: &Input, place: usize, refusal: Refusal, output: &mut Output) {
     output.line(heading(file, input, refusal));
-    for line in lines(input, place, refusal) {
-        output.line(line);
-    }
+    output.lines(lines(input, place, refusal));
 }
 
 /// The line that a refusal of a record starts with.

@@ -6,7 +6,7 @@ use std::path::{Path, PathBuf};
 use std::process;
 
 use crate::input;
-use crate::output::shown;
+use crate::output::{shown, Output};
 
 /// How many names are tried for a temporary file.
 const NAMES: usize = 100;
@@ -26,7 +26,7 @@ pub enum Target {
 impl Target {
     /// The place that a path names, if a record may be put there: standard output unless it is a terminal, a name that is not
     /// taken or, with `force`, a file.
-    pub fn of(path: &Path, force: bool) -> io::Result<Target> {
+    fn of(path: &Path, force: bool) -> io::Result<Target> {
         if input::is_standard(path) {
             return match io::stdout().is_terminal() {
                 true => Err(io::Error::other("a record is not written to a terminal")),
@@ -38,6 +38,13 @@ impl Target {
             Err(error) if error.kind() == ErrorKind::NotFound => Target::free(path),
             Err(error) => Err(error),
         }
+    }
+
+    /// The place that a path names, as [`Target::of`] has it; if none may be had, that is complained of.
+    pub fn or_complain(path: &Path, force: bool, output: &mut Output) -> Option<Target> {
+        let target = Target::of(path, force);
+        let complain = |error| output.complain_of_target(path, &error);
+        target.map_err(complain).ok()
     }
 
     /// A name that is not taken, in a folder that is there.

@@ -69,7 +69,7 @@ fn what_may_not_be_read_is_told() {
     }
     let locked = ["a.scp", "b"].map(|name| folder.path(name));
     for path in &locked {
-        fs::set_permissions(path, Permissions::from_mode(0)).unwrap();
+        fs::set_permissions(path, Permissions::from_mode(0o000)).unwrap();
     }
     let is_root = File::open(&locked[0]).is_ok();
     let ran = run_in(&folder, &["check", "."]);

@@ -142,6 +142,8 @@ fn the_manual_can_be_read() {
         assert_eq!((ran.status, ran.err.as_str()), (0, ""));
         for words in [
             "tigmavresh - Opens, checks",
+            "tigmavresh --explain N\n",
+            "(bash, elvish, fish, powershell, zsh)",
             "tigmavresh check [OPTIONS] PATH...",
             "--jobs N",
         ] {

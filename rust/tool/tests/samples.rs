@@ -401,9 +401,13 @@ fn a_table_has_a_column_for_each_lead() {
     assert_eq!(rows[12], "12,15,");
 }
 
+/// What the tool shows with these words, as JSON.
+fn json(words: &[&str]) -> Value {
+    serde_json::from_str(&run(words).out).unwrap()
+}
+
 #[test]
 fn json_says_what_there_is() {
-    let json = |words: &[&str]| -> Value { serde_json::from_str(&run(words).out).unwrap() };
     let shown = json(&["samples", "beat.scp", "--json"]);
     assert_eq!(shown["bytes"], 418);
     assert_eq!(shown["flags"], 5);
@@ -428,6 +432,10 @@ fn json_says_what_there_is() {
     let shown = json(&["leads", "beat.scp", "--json"]);
     assert_eq!(shown["leads"].as_array().unwrap().len(), 2);
     assert!(shown["leads"][0].get("samples").is_none());
+}
+
+#[test]
+fn json_says_what_is_refused() {
     let shown = json(&["samples", "refused-12.scp", "--json"]);
     assert_eq!(shown["leads"][0]["samples"][1], 2);
     assert_eq!(shown["leads"][1]["refusal"]["number"], 12);

@@ -259,72 +259,74 @@ fn add_pointer(record: &mut Vec<u8>) {
     }
 }
 
+/// What would be lost, and what is said of it.
+const LOSSES: [(Change, &str); 12] = [
+    (add_section_7, "Section 7, measurements, is not written"),
+    (add_pointer, "there are 13 pointers, and 12 are written"),
+    (
+        |record| record[6 + 16 + 40 + 6] = 9,
+        "Section 4 is absent, and its pointer has index 9, not 0",
+    ),
+    (
+        |record| {
+            let at = section(record, 3);
+            record[at + 9] = 14;
+        },
+        "Section 3 has the version bytes 13 and 14, which differ",
+    ),
+    (
+        |record| {
+            let at = section(record, 6);
+            record[at + 8..at + 10].fill(14);
+        },
+        "sections have different versions: 13, 14",
+    ),
+    (
+        |record| record[6 + 8..6 + 10].fill(20),
+        "sections have different versions: 13, 20",
+    ),
+    (
+        |record| {
+            let at = section(record, 2);
+            record[at + 12] = 1;
+        },
+        "Section 2 has reserved bytes that are not 0",
+    ),
+    (
+        |record| *record.last_mut().unwrap() = 7,
+        "Section 6 ends in a spare byte of 0x07, not 0",
+    ),
+    (
+        |record| {
+            let at = section(record, 2);
+            record[at - 1] = 0x20;
+        },
+        "Section 1 ends in a spare byte of 0x20, not 0",
+    ),
+    (
+        |record| record.extend([0, 0, 5]),
+        "are in no section, and not all are 0",
+    ),
+    (
+        |record| {
+            let at = section(record, 3);
+            record[at + 17] = 0x80;
+            record[at + 12] = 0x80;
+        },
+        "Section 3 has reserved bytes that are not 0",
+    ),
+    (
+        |record| record[6 + 8] = 12,
+        "Section 0 has the version bytes 12 and 13, which differ",
+    ),
+];
+
 #[test]
 fn a_record_that_would_lose_something_is_left_alone() {
     let folder = Folder::new("left-alone");
-    let changes: [(Change, &str); 12] = [
-        (add_section_7, "Section 7, measurements, is not written"),
-        (add_pointer, "there are 13 pointers, and 12 are written"),
-        (
-            |record| record[6 + 16 + 40 + 6] = 9,
-            "Section 4 is absent, and its pointer has index 9, not 0",
-        ),
-        (
-            |record| {
-                let at = section(record, 3);
-                record[at + 9] = 14;
-            },
-            "Section 3 has the version bytes 13 and 14, which differ",
-        ),
-        (
-            |record| {
-                let at = section(record, 6);
-                record[at + 8..at + 10].fill(14);
-            },
-            "sections have different versions: 13, 14",
-        ),
-        (
-            |record| record[6 + 8..6 + 10].fill(20),
-            "sections have different versions: 13, 20",
-        ),
-        (
-            |record| {
-                let at = section(record, 2);
-                record[at + 12] = 1;
-            },
-            "Section 2 has reserved bytes that are not 0",
-        ),
-        (
-            |record| *record.last_mut().unwrap() = 7,
-            "Section 6 ends in a spare byte of 0x07, not 0",
-        ),
-        (
-            |record| {
-                let at = section(record, 2);
-                record[at - 1] = 0x20;
-            },
-            "Section 1 ends in a spare byte of 0x20, not 0",
-        ),
-        (
-            |record| record.extend([0, 0, 5]),
-            "are in no section, and not all are 0",
-        ),
-        (
-            |record| {
-                let at = section(record, 3);
-                record[at + 17] = 0x80;
-                record[at + 12] = 0x80;
-            },
-            "Section 3 has reserved bytes that are not 0",
-        ),
-        (
-            |record| record[6 + 8] = 12,
-            "Section 0 has the version bytes 12 and 13, which differ",
-        ),
-    ];
     let record = spare_ends();
     let out = folder.path("out.scp");
-    for (change, reason) in changes {
+    for (change, reason) in LOSSES {
         let mut changed = record.clone();
         change(&mut changed);
         seal(&mut changed);
@@ -684,75 +686,78 @@ fn what_a_job_says_wrongly_is_told() {
 }
 
 /// What is understood and breaks a rule is refused by the library, and what was found is told.
+const ONE_CODE: &str = "\"01 00 01 00 01 01 01 00 00 00 00 00 00\"";
+const NO_FIRST: [&str; 2] = [", \"first_sample\": 1", ""];
+
+/// Changes of a job and of its samples, the refusal, and what is found.
+const REFUSED: [(Changes, Changes, u8, &str); 11] = [
+    (
+        &[["\"tag\": 26", "\"tag\": 27"]],
+        &[],
+        6,
+        "there is no tag 26",
+    ),
+    (
+        &[["\"tag\": 30", "\"tag\": 2"]],
+        &[],
+        6,
+        "tag 2 stands 2 times, not once",
+    ),
+    (
+        &[["\"007\"", "\"00\\u00007\""]],
+        &[],
+        6,
+        "tag 2 has a NUL as byte 3 of 5",
+    ),
+    (
+        &[["09 1A 35", "09 1A"]],
+        &[],
+        6,
+        "tag 26 has length 2, not 3",
+    ),
+    (
+        &[["default", "1F 4E 00"]],
+        &[],
+        7,
+        "a byte stands after the last table",
+    ),
+    (
+        &[["default", "09 00"]],
+        &[],
+        7,
+        "the number of tables is 9, not 1 to 8",
+    ),
+    (
+        &[["\"default\"", ONE_CODE]],
+        &[],
+        15,
+        "lead 1, I: no code for its difference",
+    ),
+    (
+        &[["_order\": 2", "_order\": 3"]],
+        &[],
+        17,
+        "the order is 3, not 0 to 2",
+    ),
+    (
+        &[["5000", "0"]],
+        &[["1 I (5000 nV),2 II (5000 nV)", "I,II"]],
+        17,
+        "the step is 0",
+    ),
+    (&[["2000", "0"]], &[], 17, "the interval is 0"),
+    (
+        &[NO_FIRST, NO_FIRST],
+        &[["\r\n1,0,0", "\r\n0,0,0\r\n1,0,0"]],
+        17,
+        "lead 1, I: its first sample has number 0",
+    ),
+];
+
 #[test]
 fn a_job_that_is_refused_is_explained() {
     let folder = Folder::new("job-refused");
-    let one_code = "\"01 00 01 00 01 01 01 00 00 00 00 00 00\"";
-    let no_first = [", \"first_sample\": 1", ""];
-    let cases: [(Changes, Changes, u8, &str); 11] = [
-        (
-            &[["\"tag\": 26", "\"tag\": 27"]],
-            &[],
-            6,
-            "there is no tag 26",
-        ),
-        (
-            &[["\"tag\": 30", "\"tag\": 2"]],
-            &[],
-            6,
-            "tag 2 stands 2 times, not once",
-        ),
-        (
-            &[["\"007\"", "\"00\\u00007\""]],
-            &[],
-            6,
-            "tag 2 has a NUL as byte 3 of 5",
-        ),
-        (
-            &[["09 1A 35", "09 1A"]],
-            &[],
-            6,
-            "tag 26 has length 2, not 3",
-        ),
-        (
-            &[["default", "1F 4E 00"]],
-            &[],
-            7,
-            "a byte stands after the last table",
-        ),
-        (
-            &[["default", "09 00"]],
-            &[],
-            7,
-            "the number of tables is 9, not 1 to 8",
-        ),
-        (
-            &[["\"default\"", one_code]],
-            &[],
-            15,
-            "lead 1, I: no code for its difference",
-        ),
-        (
-            &[["_order\": 2", "_order\": 3"]],
-            &[],
-            17,
-            "the order is 3, not 0 to 2",
-        ),
-        (
-            &[["5000", "0"]],
-            &[["1 I (5000 nV),2 II (5000 nV)", "I,II"]],
-            17,
-            "the step is 0",
-        ),
-        (&[["2000", "0"]], &[], 17, "the interval is 0"),
-        (
-            &[no_first, no_first],
-            &[["\r\n1,0,0", "\r\n0,0,0\r\n1,0,0"]],
-            17,
-            "lead 1, I: its first sample has number 0",
-        ),
-    ];
-    for (job, csv, number, found) in cases {
+    for (job, csv, number, found) in REFUSED {
         let ran = changed(&folder, job, csv);
         assert_refused(&folder, &ran, number, found);
     }

@@ -191,7 +191,5 @@ fn conclude(tally: &Tally, asked: Asked, output: &mut Output) {
     }
     output.block();
     output.line(tally);
-    for line in tally.table() {
-        output.line(line);
-    }
+    output.lines(tally.table());
 }

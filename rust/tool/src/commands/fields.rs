@@ -52,9 +52,7 @@ fn show(file: &Path, record: &[u8], fields: &[Field], output: &mut Output) {
         .iter()
         .flat_map(|field| rows(field.tag, &record[field.range.clone()]))
         .collect();
-    for line in table::lines(&COLUMNS, &rows) {
-        output.line(line);
-    }
+    output.lines(table::lines(&COLUMNS, &rows));
 }
 
 /// A field's rows of the table: one, or more if its bytes are many.

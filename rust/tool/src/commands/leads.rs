@@ -71,9 +71,7 @@ fn show(file: &Path, leads: &[Entry], output: &mut Output) {
         .zip(leads)
         .map(|(place, entry)| row(place, entry))
         .collect();
-    for line in table::lines(&COLUMNS, &rows) {
-        output.line(line);
-    }
+    output.lines(table::lines(&COLUMNS, &rows));
 }
 
 /// So many leads, in words.

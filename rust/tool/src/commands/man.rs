@@ -30,13 +30,17 @@ fn page(mut tool: Command) -> String {
     page.heading("NAME");
     page.text(&format!("{name} - {}", purpose.trim_end_matches('.')));
     page.heading("SYNOPSIS");
+    for option in tool.get_opts() {
+        page.line(&format!("{name} {}", called(option)));
+        page.line(".br");
+    }
     for command in tool.get_subcommands_mut() {
         page.usage(command);
     }
     page.heading("DESCRIPTION");
     page.text(description);
     page.heading("OPTIONS");
-    page.arguments(&tool, None);
+    page.arguments(tool.get_arguments());
     page.heading("COMMANDS");
     let shared = tool.get_after_help().map(ToString::to_string);
     for command in tool.get_subcommands() {
@@ -116,7 +120,9 @@ impl Page {
         let about = command.get_about().map(ToString::to_string);
         let long = command.get_long_about().map(ToString::to_string);
         self.text(&long.or(about).unwrap_or_default());
-        self.arguments(command, Some("help"));
+        // every command has this one, and it is told of once, of the tool
+        let arguments = command.get_arguments();
+        self.arguments(arguments.filter(|argument| argument.get_long() != Some("help")));
         let end = command.get_after_help().map(ToString::to_string);
         if end != *shared {
             self.line(".PP");
@@ -124,14 +130,18 @@ impl Page {
         }
     }
 
-    /// The arguments of a command, and its options; the help that every command has is told of once, of the tool.
-    fn arguments(&mut self, command: &Command, but: Option<&str>) {
-        let arguments = command.get_arguments();
-        for argument in arguments.filter(|argument| argument.get_long() != but || but.is_none()) {
+    /// Arguments and options, each with its help.
+    fn arguments<'a>(&mut self, arguments: impl Iterator<Item = &'a Arg>) {
+        for argument in arguments {
             self.line(".TP");
             self.line(&called(argument));
             let help = argument.get_help().map(ToString::to_string);
             self.words(&help.unwrap_or_default());
+            let values = argument.get_possible_values();
+            let values: Vec<&str> = values.iter().map(|value| value.get_name()).collect();
+            if argument.is_positional() && !values.is_empty() {
+                self.words(&format!("({})", values.join(", ")));
+            }
         }
     }
 }

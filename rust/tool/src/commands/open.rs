@@ -67,9 +67,7 @@ fn show(file: &Path, size: Size, pointers: &[Pointer], output: &mut Output) {
         shown(file)
     ));
     let rows: Vec<_> = pointers.iter().map(row).collect();
-    for line in table::lines(&COLUMNS, &rows) {
-        output.line(line);
-    }
+    output.lines(table::lines(&COLUMNS, &rows));
 }
 
 /// A pointer's row of the table.

@@ -8,7 +8,7 @@ use scp::{Entry, Pointer, Refusal};
 
 use super::write::say;
 use crate::input::{read_or_complain, Input};
-use crate::making::{Making, HEADER};
+use crate::making::{Making, DEFAULT_TABLE, HEADER};
 use crate::names;
 use crate::output::{shown, shown_target, Output};
 use crate::refused;
@@ -28,17 +28,11 @@ const COLUMNS: [Column; 5] = [
 const POINTERS: usize = 12;
 /// The sections that are written.
 const WRITTEN: [u16; 5] = [0, 1, 2, 3, 6];
-/// The number of tables that names the default table.
-const DEFAULT: usize = 19_999;
 
 /// Packs a file, and puts the record where it is asked for.
 pub fn run(file: &Path, out: &Path, force: bool, output: &mut Output) -> Status {
-    let target = match Target::of(out, force) {
-        Ok(target) => target,
-        Err(error) => {
-            output.complain_of_target(out, &error);
-            return Status::NotDone;
-        }
+    let Some(target) = Target::or_complain(out, force, output) else {
+        return Status::NotDone;
     };
     let Some(input) = read_or_complain(file, output) else {
         return Status::NotDone;
@@ -52,13 +46,9 @@ pub fn run(file: &Path, out: &Path, force: bool, output: &mut Output) -> Status 
         leave_alone(file, &losses, &target, output);
         return Status::Refused;
     }
-    let making = match parsed.making() {
-        Ok(making) => making,
-        Err((place, refusal)) => return refuse(file, &input, place, refusal, &target, output),
-    };
-    let packed = match scp::written(&making.job()) {
+    let (making, packed) = match parsed.packed() {
         Ok(packed) => packed,
-        Err(refusal) => return refuse(file, &input, 1, refusal, &target, output),
+        Err((place, refusal)) => return refuse(file, &input, place, refusal, &target, output),
     };
     let check = |back: &[u8]| {
         making.is_said_by(back)?;
@@ -308,6 +298,13 @@ impl<'a> Parsed<'a> {
         Ok(making)
     }
 
+    /// What the packed record is made of, and the record.
+    fn packed(&self) -> Result<(Making, Vec<u8>), Refused> {
+        let making = self.making()?;
+        let packed = scp::written(&making.job()).map_err(|refusal| (1, refusal))?;
+        Ok((making, packed))
+    }
+
     /// Whether a packed record has all that this one has: Sections 1 to 3 bit for bit, and the heads of the others.
     fn is_kept_in(&self, packed: &[u8]) -> Result<(), String> {
         let refused = |(_, refusal): Refused| format!("it is refused: {refusal}");
@@ -333,12 +330,12 @@ fn place(pointer: &Pointer) -> Option<Range<usize>> {
 /// How many bytes of a Section 2 that keeps the rules are its tables.
 fn tables_length(data: &[u8]) -> usize {
     let number = |at: usize| match data.get(at..at + 2) {
-        Some(bytes) => usize::from(u16::from_le_bytes([bytes[0], bytes[1]])),
+        Some(bytes) => u16::from_le_bytes([bytes[0], bytes[1]]),
         None => 0,
     };
     match number(0) {
         _ if data.is_empty() => 0,
-        DEFAULT => 2,
-        tables => (0..tables).fold(2, |at, _| at + 2 + 9 * number(at)),
+        DEFAULT_TABLE => 2,
+        tables => (0..tables).fold(2, |at, _| at + 2 + 9 * usize::from(number(at))),
     }
 }

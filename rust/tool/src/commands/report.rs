@@ -166,7 +166,7 @@ impl<'a> Report<'a> {
         let told = self.verdict.told(self.input.size);
         output.line(format_args!("{}: {told}", shown(self.file)));
         let rows: Vec<_> = self.answers.iter().map(rule_row).collect();
-        self.show_table(&RULES, &rows, output);
+        output.lines(table::lines(&RULES, &rows));
         for answer in self.answers.iter().filter(|answer| answer.is_broken) {
             self.show_broken(answer, output);
         }
@@ -178,12 +178,6 @@ impl<'a> Report<'a> {
         if let Some(note) = self.note() {
             output.block();
             output.line(note);
-        }
-    }
-
-    fn show_table(&self, columns: &[Column; 3], rows: &[[String; 3]], output: &mut Output) {
-        for line in table::lines(columns, rows) {
-            output.line(line);
         }
     }
 
@@ -202,7 +196,7 @@ impl<'a> Report<'a> {
             }
             _ => refused::found_lines(&answer.found),
         };
-        lines.iter().for_each(|line| output.line(line));
+        output.lines(lines);
     }
 
     /// Shows what reading each lead answers, or why none is read.
@@ -211,7 +205,7 @@ impl<'a> Report<'a> {
         match self.verdict {
             _ if !self.leads.is_empty() => {
                 let rows: Vec<_> = self.leads.iter().map(lead_row).collect();
-                self.show_table(&LEADS, &rows, output);
+                output.lines(table::lines(&LEADS, &rows));
             }
             Verdict::Refused { refusal, .. } => {
                 let number = refusal.number();
@@ -219,8 +213,7 @@ impl<'a> Report<'a> {
                     "No lead is read: all are refused, number {number}"
                 ));
                 if number > ALONE {
-                    let lines = refused::lines(self.input, 1, refusal);
-                    lines.iter().for_each(|line| output.line(line));
+                    output.lines(refused::lines(self.input, 1, refusal));
                 }
             }
             Verdict::Accepted { .. } => {
@@ -232,8 +225,7 @@ impl<'a> Report<'a> {
                 output.block();
                 let (place, name) = (lead.place, names::lead(lead.entry.id));
                 output.line(format_args!("Lead {place}, {name}: {}", lead.words()));
-                let lines = refused::lines(self.input, place, refusal);
-                lines.iter().for_each(|line| output.line(line));
+                output.lines(refused::lines(self.input, place, refusal));
             }
         }
     }

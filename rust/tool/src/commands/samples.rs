@@ -129,9 +129,7 @@ fn as_text(file: &Path, input: &Input, leads: &[Read], output: &mut Output) {
             Err(refusal) => {
                 let number = refusal.number();
                 output.line(format_args!("{}: refused, number {number}", lead.title()));
-                for line in refused::lines(input, lead.place, *refusal) {
-                    output.line(line);
-                }
+                output.lines(refused::lines(input, lead.place, *refusal));
             }
         }
     }

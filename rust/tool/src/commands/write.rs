@@ -15,12 +15,8 @@ use crate::store::Target;
 
 /// Makes a record from a job, and puts it where it is asked for.
 pub fn run(file: &Path, out: &Path, force: bool, output: &mut Output) -> Status {
-    let target = match Target::of(out, force) {
-        Ok(target) => target,
-        Err(error) => {
-            output.complain_of_target(out, &error);
-            return Status::NotDone;
-        }
+    let Some(target) = Target::or_complain(out, force, output) else {
+        return Status::NotDone;
     };
     let making = match job::read(file) {
         Ok(making) => making,
@@ -74,7 +70,5 @@ pub fn say(lines: &[String], target: &Target, output: &mut Output) {
             .collect();
         return output.remark(&lines);
     }
-    for line in lines {
-        output.line(line);
-    }
+    output.lines(lines);
 }

@@ -1,10 +1,8 @@
 //! Row 6: the data of Section 1.
 
 use super::sections;
-use super::{number, part};
+use super::{number, part, HEADER};
 
-/// The bytes of a section's header.
-const HEADER: u64 = 16;
 /// The bytes of a field's tag and length.
 const TAG_AND_LENGTH: u64 = 3;
 /// The tag of the end mark.

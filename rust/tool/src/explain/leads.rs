@@ -4,8 +4,8 @@ use super::sections::data;
 use super::{number, part};
 
 /// The most leads, samples of a lead or a beat, and QRS.
-const LEADS_MAX: u64 = 32;
-const SAMPLES_MAX: u64 = 65_536;
+const LEADS_MAX: u64 = scp::LEADS_MAX as u64;
+const SAMPLES_MAX: u64 = scp::SAMPLES_MAX as u64;
 const QRS_MAX: u64 = 1024;
 /// The bytes of a lead in Section 3, of a QRS in Section 4, and of what comes before the byte counts in Sections 5 and 6.
 const LEAD: u64 = 9;

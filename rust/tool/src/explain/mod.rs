@@ -14,10 +14,14 @@ mod writing;
 use scp::Refusal;
 
 use crate::input::{Input, Size};
+use crate::making;
 pub use writing::found as found_in_job;
 
 /// What is said if nothing was found, which would be a fault of this module.
 const NOTHING: &str = "nothing that this tool knows how to explain";
+
+/// The bytes of a section's header.
+const HEADER: u64 = making::HEADER as u64;
 
 /// The fewest bytes that a record has.
 const RECORD_MIN: u64 = 142;

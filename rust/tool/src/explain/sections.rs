@@ -1,13 +1,11 @@
 //! Rows 3, 4 and 5: Section 0, the sections' places and headers, their checks.
 
-use super::{differs, number, part};
+use super::{differs, number, part, HEADER};
 use crate::names;
 use crate::output::hex;
 
 /// Where Section 0 starts.
 const SECTION_0: u64 = 7;
-/// The bytes of a section's header.
-const HEADER: u64 = 16;
 /// The bytes of a pointer.
 const POINTER: u64 = 10;
 /// How many pointers Section 0 has, at least and at most.

@@ -47,45 +47,18 @@ fn rebuilt(
     first: u64,
 ) -> Option<Rebuilt> {
     let stored = Stored::of(record, section)?;
-    let stream = stored.stream(lead, lead_count(record)?)?;
     let mut reader = Reader {
-        stream,
+        stream: stored.stream(lead, lead_count(record)?)?,
         at: 0,
         table: 1,
     };
-    let sample_of = match section {
+    let name = match section {
         5 => "beat sample",
         _ => "sample",
     };
-    let mut samples: Vec<i64> = Vec::new();
-    let told = |words: String| {
-        Some(Err(format!(
-            "Section {section}, lead {}: {words}",
-            lead + 1
-        )))
-    };
-    for n in (first..).take(usize::try_from(count).ok()?) {
-        let value = match tables {
-            Some(tables) => reader.value(tables),
-            None => reader.two_bytes(),
-        };
-        let value = match value {
-            Ok(value) => value,
-            Err(why) => return told(format!("no value for {sample_of} {n}: {why}")),
-        };
-        let sample = foreseen(stored.order, &samples) + value;
-        if i16::try_from(sample).is_err() {
-            return told(format!("{sample_of} {n} is {sample}"));
-        }
-        samples.push(sample);
-    }
-    match reader.left() {
-        0..=7 => Some(Ok(samples)),
-        left => told(format!(
-            "{left} bits are left of {} after the last sample",
-            reader.bits()
-        )),
-    }
+    let numbers = (first..).take(usize::try_from(count).ok()?);
+    let read = reader.samples(tables, stored.order, numbers, name);
+    Some(read.map_err(|words| format!("Section {section}, lead {}: {words}", lead + 1)))
 }
 
 /// What a stored value is added to: nothing, the sample before, or the line through the two before.
@@ -142,6 +115,36 @@ impl Reader<'_> {
     fn bit(&self, place: u64) -> bool {
         let byte = self.stream.get((place / 8) as usize).copied().unwrap_or(0);
         byte >> (7 - place % 8) & 1 == 1
+    }
+
+    /// Rebuilds the samples of these numbers from the differences of an order, and sees that they are all.
+    fn samples(
+        &mut self,
+        tables: &Option<Vec<Vec<Structure>>>,
+        order: u64,
+        numbers: impl Iterator<Item = u64>,
+        name: &str,
+    ) -> Rebuilt {
+        let mut samples: Vec<i64> = Vec::new();
+        for n in numbers {
+            let value = match tables {
+                Some(tables) => self.value(tables),
+                None => self.two_bytes(),
+            };
+            let value = value.map_err(|why| format!("no value for {name} {n}: {why}"))?;
+            let sample = foreseen(order, &samples) + value;
+            if i16::try_from(sample).is_err() {
+                return Err(format!("{name} {n} is {sample}"));
+            }
+            samples.push(sample);
+        }
+        let (left, bits) = (self.left(), self.bits());
+        match left {
+            0..=7 => Ok(samples),
+            _ => Err(format!(
+                "{left} bits are left of {bits} after the last sample"
+            )),
+        }
     }
 
     /// The next value by the tables, switches followed, or why there is none.

@@ -2,11 +2,12 @@
 
 use super::sections;
 use super::{number, part};
+use crate::making::DEFAULT_TABLE;
 
 /// The number of tables that means the default table.
-const DEFAULT: u64 = 19_999;
+const DEFAULT: u64 = DEFAULT_TABLE as u64;
 /// The most tables, structures of a table, bits of a prefix and bits of a remainder.
-const TABLES_MAX: u64 = 8;
+const TABLES_MAX: u64 = scp::TABLES_MAX as u64;
 const STRUCTURES_MAX: u64 = 64;
 const PREFIX_MAX: u64 = 32;
 const REMAINDER_MAX: u64 = 16;

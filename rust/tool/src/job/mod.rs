@@ -14,7 +14,7 @@ use std::path::{Path, PathBuf};
 use serde::{Deserialize, Deserializer};
 
 use crate::input;
-use crate::making::Making;
+use crate::making::{Making, DEFAULT_TABLE};
 use crate::names;
 use crate::output::shown;
 use number::Number;
@@ -22,8 +22,6 @@ use trace::Trace;
 
 /// The most bytes of a job: a record's worth of hex, and more.
 const JOB_MAX: u64 = 16 << 20;
-/// Section 2's data that name the default table.
-const DEFAULT_TABLE: [u8; 2] = 19_999u16.to_le_bytes();
 /// The tag of the end mark.
 const END: u8 = 255;
 
@@ -227,7 +225,7 @@ impl TryFrom<String> for Tables {
 
     fn try_from(text: String) -> Result<Tables, String> {
         match text.as_str() {
-            "default" => Ok(Tables(DEFAULT_TABLE.to_vec())),
+            "default" => Ok(Tables(DEFAULT_TABLE.to_le_bytes().to_vec())),
             "none" => Ok(Tables(Vec::new())),
             _ => match Hex::try_from(text)?.0 {
                 bytes if bytes.is_empty() => {

@@ -181,59 +181,62 @@ mod tests {
         assert_eq!(columns[0], Column::default());
     }
 
+    /// What is wrong with a table, and what is said of it.
+    const WRONG: [(&str, &str); 13] = [
+        ("", "it is empty"),
+        (
+            "number,I,II\n",
+            "line 1, column 1: the head is \"number\", not \"sample\"",
+        ),
+        (
+            "sample,I\n",
+            "line 1: 1 columns stand after the sample numbers, for 2 leads",
+        ),
+        (
+            "sample,II,I\n",
+            "line 1, column 2: the head is \"II\", not \"I\" or \"1 I (5000 nV)\"",
+        ),
+        (
+            "sample,I,II\n1,2\n",
+            "line 2: it has 2 cells, and line 1 has 3",
+        ),
+        (
+            "sample,I,II\n1,2,3\n1,2,3\n",
+            "line 3, column 1: sample 1 comes after 1",
+        ),
+        (
+            "sample,I,II\n1,2,32768\n",
+            "line 2, column 3: 32768 is outside -32768 to 32767",
+        ),
+        (
+            "sample,I,II\n1,-32769,\n",
+            "line 2, column 2: -32769 is outside -32768 to 32767",
+        ),
+        (
+            "sample,I,II\n-1,2,3\n",
+            "line 2, column 1: -1 is outside 0 to 4294967295",
+        ),
+        (
+            "sample,I,II\n4294967296,2,3\n",
+            "line 2, column 1: 4294967296 is outside 0 to 4294967295",
+        ),
+        (
+            "sample,I,II\n1,2,1.5\n",
+            "line 2, column 3: \"1.5\" is no whole number",
+        ),
+        (
+            "sample,I,II\n1,2,+3\n",
+            "line 2, column 3: \"+3\" is no whole number",
+        ),
+        (
+            "sample,I,II\n1,2, 3\n",
+            "line 2, column 3: \" 3\" is no whole number",
+        ),
+    ];
+
     #[test]
     fn what_is_wrong_has_its_place() {
-        for (text, words) in [
-            ("", "it is empty"),
-            (
-                "number,I,II\n",
-                "line 1, column 1: the head is \"number\", not \"sample\"",
-            ),
-            (
-                "sample,I\n",
-                "line 1: 1 columns stand after the sample numbers, for 2 leads",
-            ),
-            (
-                "sample,II,I\n",
-                "line 1, column 2: the head is \"II\", not \"I\" or \"1 I (5000 nV)\"",
-            ),
-            (
-                "sample,I,II\n1,2\n",
-                "line 2: it has 2 cells, and line 1 has 3",
-            ),
-            (
-                "sample,I,II\n1,2,3\n1,2,3\n",
-                "line 3, column 1: sample 1 comes after 1",
-            ),
-            (
-                "sample,I,II\n1,2,32768\n",
-                "line 2, column 3: 32768 is outside -32768 to 32767",
-            ),
-            (
-                "sample,I,II\n1,-32769,\n",
-                "line 2, column 2: -32769 is outside -32768 to 32767",
-            ),
-            (
-                "sample,I,II\n-1,2,3\n",
-                "line 2, column 1: -1 is outside 0 to 4294967295",
-            ),
-            (
-                "sample,I,II\n4294967296,2,3\n",
-                "line 2, column 1: 4294967296 is outside 0 to 4294967295",
-            ),
-            (
-                "sample,I,II\n1,2,1.5\n",
-                "line 2, column 3: \"1.5\" is no whole number",
-            ),
-            (
-                "sample,I,II\n1,2,+3\n",
-                "line 2, column 3: \"+3\" is no whole number",
-            ),
-            (
-                "sample,I,II\n1,2, 3\n",
-                "line 2, column 3: \" 3\" is no whole number",
-            ),
-        ] {
+        for (text, words) in WRONG {
             assert_eq!(trace(text), Err(words.to_string()), "{text:?}");
         }
     }
