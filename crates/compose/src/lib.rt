@@ -535,11 +535,11 @@ pub fn write_record(
     if refusal != 0 {
         return refused(refusal);
     }
-    let answer = write_by(section1.len(), section2, head, counts, xs, work, out);
-    if answer.refusal != 0 {
-        return answer;
+    let written = write_by(section1.len(), section2, head, counts, xs, work, out);
+    if written.refusal != 0 {
+        return written;
     }
-    let record = &mut out[..answer.bytes as usize];
+    let record = &mut out[..written.bytes as usize];
     write_front(record, head, section1, section2, firsts, counts, ids);
-    answer
+    written
 }

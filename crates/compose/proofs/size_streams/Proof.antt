@@ -3,7 +3,7 @@ use Prim.Native.Nat.{_+_, _-_, _≤_}
 use mathlib.Core.Path.{_≡_, refl, sym, _∙_}
 use native.Mathlib.Omega.{arith}
 use lib.ListN.{length, take, drop, length-set}
-use native.Mathlib.Nat.{mul-le-mul-right}
+use native.Mathlib.Nat.{le-refl, le-trans, sub-le, mul-le-mul-right}
 use Rattle.encode.specs.Encoding.{tablesGiven}
 use Rattle.compose.specs.Writing.{total, cut}
 use Rattle.compose.specs.InnerSizes.{SizedAs}
@@ -26,7 +26,7 @@ table-count-requires c κs = c .before .before .before .before .before .pre .0 .
 loop-holds : tie.Need-loop-holds Inv-loop μ-loop
 loop-holds c =
     let a = c .before .before .before .before .before .before .args in (
-      omega arith,
+      le-refl _,
       places-start (a .counts .now) (length (a .xs .now)),
       refl,
       refl,
@@ -36,13 +36,13 @@ loop-holds c =
     )
 
 sub-k : tie.Need-sub-k Inv-loop μ-loop
-sub-k c = omega arith
+sub-k c = c .loop-test .taken
 
 mul-at : tie.Need-mul-at Inv-loop μ-loop
 mul-at c = omega arith
 
 shared-slice-read-at : tie.Need-shared-slice-read-at Inv-loop μ-loop
-shared-slice-read-at c = omega arith
+shared-slice-read-at c = omega (arith, c .before .loop-test .taken, c .before .before .loop .inv .0)
 
 cast-at : tie.Need-cast-at Inv-loop μ-loop
 cast-at c = omega (arith, c .shared-slice-known4 .given (c .before .before .loop .k - 1))
@@ -53,19 +53,20 @@ sub-at c =
     let a = i .before .before .before .before .before .before .before .args in
     let p = i .before .before .before .before .before .before .before .pre in
     let l = i .loop in
-    room-back (a .counts .now) (l .k) (omega arith) (l .inv .0) (l .at) (length (a .xs .now)) (l .inv .1) (p .0 .0 .3)
+    let t = c .before .loop-test .taken in
+    room-back (a .counts .now) (l .k) t (l .inv .0) (l .at) (length (a .xs .now)) (l .inv .1) (p .0 .0 .3)
 
 mul-stream-bits : tie.Need-mul-stream-bits Inv-loop μ-loop
 mul-stream-bits c = omega arith
 
 sub-stream-bits : tie.Need-sub-stream-bits Inv-loop μ-loop
-sub-stream-bits c = omega arith
+sub-stream-bits c = sub-le _ _
 
 part-stream-bits-start : tie.Need-part-stream-bits-start Inv-loop μ-loop
-part-stream-bits-start c = omega arith
+part-stream-bits-start c = sub-le _ _
 
 part-stream-bits-end : tie.Need-part-stream-bits-end Inv-loop μ-loop
-part-stream-bits-end c = omega arith
+part-stream-bits-end c = omega (arith, c .before .before .loop .inv .1)
 
 stream-bits-requires : tie.Need-stream-bits-requires Inv-loop μ-loop
 stream-bits-requires c κs =
@@ -73,8 +74,9 @@ stream-bits-requires c κs =
     let a = i .before .before .before .before .before .before .before .args in
     let p = i .before .before .before .before .before .before .before .pre in
     let l = i .loop in
+    let t = c .before .before .before .loop-test .taken in
     let n = i .before .table-count in
-    let e = length-lent (a .counts .now) (l .k) (omega arith) (l .inv .0) (l .at) (length (a .xs .now)) (l .inv .1) (p .0 .0 .3)
+    let e = length-lent (a .counts .now) (l .k) t (l .inv .0) (l .at) (length (a .xs .now)) (l .inv .1) (p .0 .0 .3)
     (a .xs .now) refl in
     let m = in-longest (a .counts .now) (l .k - 1) in (
       (tablesGiven (a .section2 .now), p .0 .1, sym (n .ensures .0)),
@@ -109,10 +111,13 @@ mul-sizes : tie.Need-mul-sizes Inv-loop μ-loop
 mul-sizes c = omega arith
 
 slice-write-sizes : tie.Need-slice-write-sizes Inv-loop μ-loop
-slice-write-sizes c = omega arith
+slice-write-sizes c =
+    let i = c .before .before .before .before .before .before .before .before in
+    let l = i .loop in
+    omega (arith, c .before .before .before .before .before .before .before .loop-test .taken, l .inv .0, l .inv .3, i .before .before .before .before .before .before .before .pre .1)
 
 loop-less : tie.Need-loop-less Inv-loop μ-loop
-loop-less c = omega arith
+loop-less c = omega (arith, c .before .before .before .before .before .before .before .loop-test .taken)
 
 loop-again : tie.Need-loop-again Inv-loop μ-loop
 loop-again c =
@@ -120,13 +125,14 @@ loop-again c =
     let a = i .before .before .before .before .before .before .before .args in
     let p = i .before .before .before .before .before .before .before .pre in
     let l = i .loop in
+    let t = c .before .before .before .before .before .before .before .loop-test .taken in
     let n = i .before .table-count in
     let s = c .before .before .before .stream-bits in (
-      omega arith,
-      place-back (a .counts .now) (l .k) (omega arith) (l .inv .0) (l .at) (length (a .xs .now)) (l .inv .1) (p .0 .0 .3),
+      le-trans (sub-le _ _) (l .inv .0),
+      place-back (a .counts .now) (l .k) t (l .inv .0) (l .at) (length (a .xs .now)) (l .inv .1) (p .0 .0 .3),
       s .kept .1 .1 .1 .1 .0 ∙ l .inv .2,
       simp length-set (l .inv .3),
-      sized-more (a .counts .now) (l .k) (omega arith) (l .inv .0) (l .at) (length (a .xs .now)) (l .inv .1) (p .0 .0 .3) (a .section2 .now)
+      sized-more (a .counts .now) (l .k) t (l .inv .0) (l .at) (length (a .xs .now)) (l .inv .1) (p .0 .0 .3) (a .section2 .now)
           (a .order) (a .xs .now) (l .number) _ (s .result) (l .sizes) (omega (arith, l .inv .3)) (l .inv .4)
           (s .ensures .0 _ (p .0 .1) (sym (n .ensures .0)) .0) (c .number-with .ensures),
       λ z. s .ensures .1 z ∙ l .inv .5 z,

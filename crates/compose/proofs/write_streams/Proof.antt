@@ -46,13 +46,20 @@ put-streams-requires c κs =
     (p .0, (p .1 .2, omega (arith, m, t .ensures .0), p .1 .3))
 
 put-spare-requires : tie.Need-put-spare-requires
-put-spare-requires c κs = search needs
+put-spare-requires c κs =
+    let d = c .before .before .before .before .before in
+    let p = d .before .before .before .before .before .before .before .before .before .before .before .before .before .before .pre in
+    let t = d .before .before .before .before .before .before .before .total-of in
+    let h = d .before .before .before .before .before .write-streams-head in
+    let from = 22 + 2 * length (d .before .before .before .before .before .before .before .before .before .before .before .before .before .before .args .sizes .now) in
+    let e = same-len-mid from (from + t .result - from) (h .last .0) (d .put-streams .last .1 .1 .1 .1 .1 .1 .1 .0) (d .put-streams .kept .1 .1 .1 .1 .1 .1 .1 .0) in
+    (omega (arith, e, h .kept .0, p .1 .4, t .ensures .0), omega (arith, e, h .kept .0, p .1 .4, t .ensures .0))
 
 seal-requires : tie.Need-seal-requires
 seal-requires c κs = search needs
 
 same-length : tie.Need-same-length
-same-length c = search needs
+same-length c = c .before .before .before .before .before .before .before .before .before .before .before .before .put-streams .kept .1 .1 .1 .1 .1 .0
 
 same-length-2 : tie.Need-same-length-2
 same-length-2 c = search needs
