@@ -12,7 +12,8 @@ ghost use Rattle.beats.specs.InnerZones.{Reaches, Alike};
 // Zone k is of type 0 and does not end before sample n.
 fn reaches(s: &[u8], k: usize, n: usize) -> bool
     requires { ⌜ k < 65536 ⌝ }
-    ensures { λ r. ⌜ (r ≡ true → (qrsType (now (s .entry)) k ≡ 0) × (n ≤ zoneEnd (now (s .entry)) k)) × (r ≡ false → (m : ℕ) → n ≤ m → inZone (now (s .entry)) k m ≡ false) ⌝ }
+    ensures { λ r. ⌜ (r ≡ true → (qrsType (now (s .entry)) k ≡ 0) × (n ≤ zoneEnd (now (s .entry)) k))
+        × (r ≡ false → (m : ℕ) → n ≤ m → inZone (now (s .entry)) k m ≡ false) ⌝ }
 {
     if entries::zone_type(s, k) != 0 {
         return false;
@@ -37,7 +38,8 @@ fn zone_for(s: &[u8], zones: usize, k: usize, n: usize) -> usize
 
 // What sample n gets by zone k, the first that reaches it, 32,768 added: a sample of the beat, or 0.
 fn beat_by(s: &[u8], beat: &[i16], zones: usize, k: usize, n: usize) -> usize
-    requires { ⌜ (section4Right (length (now beat)) (now s) ≡ true) × (zones ≡ qrsCount (now s)) × (k ≤ zones) × (n ≤ 8589934592) × Reaches (now s) zones k n ⌝ }
+    requires { ⌜ (section4Right (length (now beat)) (now s) ≡ true) × (zones ≡ qrsCount (now s)) × (k ≤ zones) × (n ≤ 8589934592)
+        × Reaches (now s) zones k n ⌝ }
     ensures { λ r. ⌜ (lower 32768 r ≡ beatValueAt (now (beat .entry)) (beatPlaceFrom (now (s .entry)) (zones - k) k n)) × (r < 65536) ⌝ }
 {
     if k == zones {
@@ -53,7 +55,8 @@ fn beat_by(s: &[u8], beat: &[i16], zones: usize, k: usize, n: usize) -> usize
 // The beat is added to samples whose first is numbered `first`: 0, or 13 where a sum is outside 16 bits.
 pub fn add_beat(s: &[u8], beat: &[i16], first: usize, room: &mut [i16]) -> u8
     requires { ⌜ (section4Right (length (now beat)) (now s) ≡ true) × (first < 4294967296) × (length (now room) ≤ 65536) ⌝ }
-    ensures { λ r. ⌜ (traceOf r (now (room .exit)) ≡ addBeat (now (s .entry)) (now (beat .entry)) first (now (room .entry))) × (length (now (room .exit)) ≡ length (now (room .entry))) ⌝ }
+    ensures { λ r. ⌜ (traceOf r (now (room .exit)) ≡ addBeat (now (s .entry)) (now (beat .entry)) first (now (room .entry)))
+        × (length (now (room .exit)) ≡ length (now (room .entry))) ⌝ }
 {
     let n = room.len();
     let zones = wire::number16(s, 20);

@@ -94,7 +94,8 @@ fn put_form(tab: &mut [u32], t: usize, k: usize, f: Form)
     requires { ⌜ (length (now tab) ≡ 3080) × (t < 8) × (k < 64) ⌝ }
     requires { ⌜ (f .prefix < 4294967296) × (f .remainder < 4294967296) × (f .to < 4294967296) ⌝ }
     requires { ⌜ (f .lo < 4294967296) × (f .hi < 4294967296) × (f .word < 4294967296) ⌝ }
-    ensures { λ _. ⌜ now (tab .exit) ≡ take (t * 385 + 1 + k * 6) (now (tab .entry)) ++ (numbersOf f ++ drop (t * 385 + 7 + k * 6) (now (tab .entry))) ⌝ }
+    ensures { λ _. ⌜ now (tab .exit) ≡ take (t * 385 + 1 + k * 6) (now (tab .entry)) ++
+        (numbersOf f ++ drop (t * 385 + 7 + k * 6) (now (tab .entry))) ⌝ }
 {
     let o = t * 385 + k * 6;
     tab[o + 1] = f.prefix as u32;
@@ -137,7 +138,8 @@ fn put_default(tab: &mut [u32])
 // The tables from n on have no structure.
 fn put_none(tab: &mut [u32], n: usize)
     requires { ⌜ (length (now tab) ≡ 3080) × (n ≤ 8) ⌝ }
-    ensures { λ _. ⌜ ((t : ℕ) → n ≤ t → t < 8 → Says [] (now (tab .exit)) t) × ((i : ℕ) → i < n * 385 → getD (now (tab .exit)) i 0 ≡ getD (now (tab .entry)) i 0) ⌝ }
+    ensures { λ _. ⌜ ((t : ℕ) → n ≤ t → t < 8 → Says [] (now (tab .exit)) t)
+        × ((i : ℕ) → i < n * 385 → getD (now (tab .exit)) i 0 ≡ getD (now (tab .entry)) i 0) ⌝ }
 {
     let mut t = n;
     while t < 8 {

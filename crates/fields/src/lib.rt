@@ -31,7 +31,8 @@ pub fn field_place(rec: &[u8], tag: u8, occurrence: usize) -> Place
 pub fn field<'a>(rec: &'a [u8], tag: u8, occurrence: usize, refusal: &mut u8) -> &'a [u8]
     ensures number { λ r. ⌜ now (refusal .exit) ≡ refusalOf (fieldPlace (now (rec .entry)) tag occurrence) ⌝ }
     ensures bytes { λ r. ⌜ now r ≡ partBytes (now (rec .entry)) (fieldPlace (now (rec .entry)) tag occurrence) ⌝ }
-    ensures itself { λ r. ⌜ (r .ptr .0 ≡ rec .entry .ptr .0) × (r .ptr .1 ≡ partStart (fieldPlace (now (rec .entry)) tag occurrence) + rec .entry .ptr .1) ⌝ }
+    ensures itself { λ r. ⌜ (r .ptr .0 ≡ rec .entry .ptr .0)
+        × (r .ptr .1 ≡ partStart (fieldPlace (now (rec .entry)) tag occurrence) + rec .entry .ptr .1) ⌝ }
 {
     match field_place(rec, tag, occurrence) {
         Place::At(start, size) => {

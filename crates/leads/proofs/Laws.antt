@@ -52,7 +52,8 @@ zeros l n e h = e ∙ ap (λ (i : ℕ). replicate i (pos 0)) h
 -- ---- a lead's tables and its trace
 
 -- numbers that say the tables of Section 2 hold those of the record
-pub tables-held : (r s tab : List ℕ) → present r 2 ≡ true → s ≡ sectionOf r 2 → Ready (tablesIn s 16) tab → Holding (tablesOf r) (take 3080 tab)
+pub tables-held : (r s tab : List ℕ) → present r 2 ≡ true → s ≡ sectionOf r 2 → Ready (tablesIn s 16) tab
+    → Holding (tablesOf r) (take 3080 tab)
 unfolding tablesOf
 tables-held r s tab here e ready =
     let whole : take 3080 tab ≡ tab = take-all 3080 tab (omega (arith, ready .room)) in
@@ -68,13 +69,18 @@ unfolding traceAt
 without-beat r k e = rw e
 
 -- a lead from which a beat was subtracted
-module _ (r : List ℕ) (k : ℕ) (here : beatSubtracted r ≡ true) (beat : List ℤ) (n : ℕ) (read : traceOf n beat ≡ streamTrace r 5 (beatSampleCount r) k) where
+module _ (r : List ℕ) (k : ℕ) (here : beatSubtracted r ≡ true) (beat : List ℤ) (n : ℕ)
+    (read : traceOf n beat ≡ streamTrace r 5 (beatSampleCount r) k) where
+  -- the sums with the samples of a beat
+  abbrev sums : List ℤ → List ℤ → Trace
+  sums b xs = addBeat (sectionOf r 4) b (firstSample (sectionOf r 3) k) xs
+
   -- the beat's fault is the lead's
   pub beat-fault : (ys : List ℤ) → (n ≡ 0 → ⊥) → traceOf n ys ≡ traceAt r k
   unfolding traceAt
   beat-fault ys h = rw (here, ← read) (go n h)
     where
-      go : (m : ℕ) → (m ≡ 0 → ⊥) → traceOf m ys ≡ afterTrace (λ b. afterTrace (λ xs. addBeat (sectionOf r 4) b (firstSample (sectionOf r 3) k) xs) (residual r k)) (traceOf m beat)
+      go : (m : ℕ) → (m ≡ 0 → ⊥) → traceOf m ys ≡ afterTrace (λ b. afterTrace (sums b) (residual r k)) (traceOf m beat)
       go zero g = absurd (g refl)
       go (suc m) g = refl
 
@@ -84,7 +90,7 @@ module _ (r : List ℕ) (k : ℕ) (here : beatSubtracted r ≡ true) (beat : Lis
     unfolding traceAt
     residual-fault ys h = rw (here, ← traced n beat _ z read, ← behind) (go m h)
       where
-        go : (l : ℕ) → (l ≡ 0 → ⊥) → traceOf l ys ≡ afterTrace (λ zs. addBeat (sectionOf r 4) beat (firstSample (sectionOf r 3) k) zs) (traceOf l xs)
+        go : (l : ℕ) → (l ≡ 0 → ⊥) → traceOf l ys ≡ afterTrace (sums beat) (traceOf l xs)
         go zero g = absurd (g refl)
         go (suc l) g = refl
 
@@ -151,7 +157,8 @@ module _ (r : List ℕ) (place room n : ℕ) (work : List ℤ) (e : n ≡ readRe
       go false = refl
 
 -- a lead that none of 1 to 11 refuses can be read
-pub readable : (r : List ℕ) (place room work : ℕ) → readRefusal r place room work ≡ 0 → (1 ≤ place) × Readable r (place - 1) work × (sampleCountAt r (place - 1) ≤ room)
+pub readable : (r : List ℕ) (place room work : ℕ) → readRefusal r place room work ≡ 0
+    → (1 ≤ place) × Readable r (place - 1) work × (sampleCountAt r (place - 1) ≤ room)
 unfolding readRefusal roomRight
 readable r place room work h =
     let k = place - 1 in
@@ -180,8 +187,11 @@ pub trace-length : (r : List ℕ) (k : ℕ) (xs : List ℤ) → rebuilt xs ≡ t
 unfolding traceAt
 trace-length r k xs h = go (beatSubtracted r) (streamTrace r 5 (beatSampleCount r) k) (residual r k) (residual-length r k) h
   where
-    go : (b : Bool) (beat behind : Trace) → ((ys : List ℤ) → behind ≡ rebuilt ys → length ys ≡ sampleCountAt r k) →
-        rebuilt xs ≡ cond b (afterTrace (λ bs. afterTrace (λ ys. addBeat (sectionOf r 4) bs (firstSample (sectionOf r 3) k) ys) behind) beat) behind → length xs ≡ sampleCountAt r k
+    sums : List ℤ → List ℤ → Trace
+    sums bs ys = addBeat (sectionOf r 4) bs (firstSample (sectionOf r 3) k) ys
+
+    go : (b : Bool) (beat behind : Trace) → ((ys : List ℤ) → behind ≡ rebuilt ys → length ys ≡ sampleCountAt r k)
+        → rebuilt xs ≡ cond b (afterTrace (λ bs. afterTrace (sums bs) behind) beat) behind → length xs ≡ sampleCountAt r k
     go false beat behind g e = g xs (sym e)
     go true (fault n) behind g e = unlike cc
     go true (rebuilt bs) (fault n) g e = unlike cc

@@ -88,7 +88,8 @@ fn hold_tables(rec: &[u8], tab: &mut [u32]) -> usize
 // Lead k's stream in Section 5 or 6 is rebuilt into the room: 0, or the number of the fault met.
 fn stream_into(rec: &[u8], section: usize, k: usize, tab: &[u32], room: &mut [i16]) -> u8
     requires { ⌜ Holding (tablesOf (now rec)) (now tab) × (section < 64) × (k < leadCountOf (now rec)) ⌝ }
-    ensures { λ r. ⌜ (traceOf r (now (room .exit)) ≡ streamTrace (now (rec .entry)) section (length (now (room .entry))) k) × (length (now (room .exit)) ≡ length (now (room .entry))) ⌝ }
+    ensures { λ r. ⌜ (traceOf r (now (room .exit)) ≡ streamTrace (now (rec .entry)) section (length (now (room .entry))) k)
+        × (length (now (room .exit)) ≡ length (now (room .entry))) ⌝ }
 {
     let s = pointers::section_of(rec, section);
     let stream = entries::stream_of(s, rules::leads_of(rec), k);
@@ -120,7 +121,9 @@ fn lead_into(rec: &[u8], k: usize, tab: &[u32], room: &mut [i16], work: &mut [i1
     requires { ⌜ Holding (tablesOf (now rec)) (now tab) ⌝ }
     requires { ⌜ Readable (now rec) k (length (now work)) ⌝ }
     requires { ⌜ length (now room) ≡ sampleCountAt (now rec) k ⌝ }
-    ensures { λ r. ⌜ (traceOf r (now (room .exit)) ≡ traceAt (now (rec .entry)) k) × (length (now (room .exit)) ≡ length (now (room .entry))) × (now (work .exit) ≡ clearedIf (beatSubtracted (now (rec .entry))) (now (work .entry))) ⌝ }
+    ensures { λ r. ⌜ (traceOf r (now (room .exit)) ≡ traceAt (now (rec .entry)) k)
+        × (length (now (room .exit)) ≡ length (now (room .entry)))
+        × (now (work .exit) ≡ clearedIf (beatSubtracted (now (rec .entry))) (now (work .entry))) ⌝ }
 {
     if !rules::has_beat(rec) {
         return stream_into(rec, 6, k, tab, room);
@@ -143,7 +146,9 @@ fn lead_out(
     requires { ⌜ Holding (tablesOf (now rec)) (now tab) ⌝ }
     requires { ⌜ Readable (now rec) k (length (now work)) ⌝ }
     requires { ⌜ (length (now room) ≡ sampleCountAt (now rec) k) × (sampleCountAt (now rec) k ≤ length (now out)) ⌝ }
-    ensures { λ r. ⌜ ((xs : List ℤ) × (traceOf r xs ≡ traceAt (now (rec .entry)) k)) × (now (out .exit) ≡ outAfter (traceAt (now (rec .entry)) k) (now (out .entry))) × (now (work .exit) ≡ clearedIf (beatSubtracted (now (rec .entry))) (now (work .entry))) ⌝ }
+    ensures { λ r. ⌜ ((xs : List ℤ) × (traceOf r xs ≡ traceAt (now (rec .entry)) k))
+        × (now (out .exit) ≡ outAfter (traceAt (now (rec .entry)) k) (now (out .entry)))
+        × (now (work .exit) ≡ clearedIf (beatSubtracted (now (rec .entry))) (now (work .entry))) ⌝ }
 {
     let fault = lead_into(rec, k, tab, room, work);
     if fault != 0 {
@@ -157,7 +162,9 @@ fn lead_out(
 fn read_into(rec: &[u8], k: usize, out: &mut [i16], work: &mut [i16]) -> u8
     requires { ⌜ Readable (now rec) k (length (now work)) ⌝ }
     requires { ⌜ sampleCountAt (now rec) k ≤ length (now out) ⌝ }
-    ensures { λ r. ⌜ ((xs : List ℤ) × (traceOf r xs ≡ traceAt (now (rec .entry)) k)) × (now (out .exit) ≡ outAfter (traceAt (now (rec .entry)) k) (now (out .entry))) × (now (work .exit) ≡ clearedIf (beatSubtracted (now (rec .entry))) (now (work .entry))) ⌝ }
+    ensures { λ r. ⌜ ((xs : List ℤ) × (traceOf r xs ≡ traceAt (now (rec .entry)) k))
+        × (now (out .exit) ≡ outAfter (traceAt (now (rec .entry)) k) (now (out .entry)))
+        × (now (work .exit) ≡ clearedIf (beatSubtracted (now (rec .entry))) (now (work .entry))) ⌝ }
 {
     let mut tab = table_room();
     let held = hold_tables(rec, &mut tab);
@@ -254,7 +261,8 @@ fn entry_at(rec: &[u8], k: usize) -> Entry
 // The lead at a place, from 1: its samples to the front of the output.
 pub fn read_lead(rec: &[u8], place: usize, out: &mut [i16], work: &mut [i16]) -> Lead
     ensures answer { λ r. ⌜ r ≡ leadAnswer (now (rec .entry)) place (length (now (out .entry))) (length (now (work .entry))) ⌝ }
-    ensures samples { λ r. ⌜ now (out .exit) ≡ outAfter (readTrace (now (rec .entry)) place (length (now (out .entry))) (length (now (work .entry)))) (now (out .entry)) ⌝ }
+    ensures samples { λ r. ⌜ now (out .exit)
+        ≡ outAfter (readTrace (now (rec .entry)) place (length (now (out .entry))) (length (now (work .entry)))) (now (out .entry)) ⌝ }
     ensures cleared { λ r. ⌜ now (work .exit) ≡ workAfter (now (rec .entry)) place (length (now (out .entry))) (now (work .entry)) ⌝ }
 {
     let refusal = read_refusal(rec, place, out.len(), work.len());

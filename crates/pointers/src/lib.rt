@@ -89,7 +89,8 @@ pub fn section_of<'a>(rec: &'a [u8], k: usize) -> &'a [u8]
 // Pointer k is put at its place among the numbers.
 fn put_pointer(rec: &[u8], k: usize, pointers: &mut [u32])
     requires { ⌜ (k < 64) × (length (now pointers) ≡ 192) ⌝ }
-    ensures { λ _. ⌜ now (pointers .exit) ≡ take (3 * k) (now (pointers .entry)) ++ (pointersFrom (now (rec .entry)) k 1 ++ drop (3 * k + 3) (now (pointers .entry))) ⌝ }
+    ensures { λ _. ⌜ now (pointers .exit) ≡ take (3 * k) (now (pointers .entry)) ++
+        (pointersFrom (now (rec .entry)) k 1 ++ drop (3 * k + 3) (now (pointers .entry))) ⌝ }
 {
     let at = 3 * k;
     pointers[at] = id_of(rec, k) as u32;

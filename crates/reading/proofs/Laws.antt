@@ -79,7 +79,8 @@ module _ (n : ℕ) (tables : List (List Structure)) (right : every (tableRight n
       rw (m .stands) at (structure-there table (m .place) (m .there))
 
   -- it takes a bit at least
-  pub falls : (table : ℕ) (bs : List ℕ) (c : Structure) → matching (tableOf tables table) bs ≡ some c → length (drop (c .prefix) bs) < length bs
+  pub falls : (table : ℕ) (bs : List ℕ) (c : Structure) → matching (tableOf tables table) bs ≡ some c
+      → length (drop (c .prefix) bs) < length bs
   falls table bs c h =
       let f = fine n c (matched-right table bs c h) in
       let m = matched (tableOf tables table) bs c h in

@@ -54,7 +54,8 @@ fn begins_with(f: Form, w: u64, left: usize) -> bool
 // The form of the structure of table t, counted from 0, whose prefix the window begins with.
 fn find(tab: &[u32], t: usize, w: u64, left: usize) -> Found
     requires { ⌜ Filled (now tab) × (t < 8) ⌝ }
-    ensures { λ r. ⌜ ((tables : List (List Structure)) (bs : List ℕ) → Ready tables (now (tab .entry)) → Seen bs w left → foundIn r ≡ formed (matching (getD tables t []) bs)) ⌝ }
+    ensures { λ r. ⌜ ((tables : List (List Structure)) (bs : List ℕ) → Ready tables (now (tab .entry)) → Seen bs w left
+        → foundIn r ≡ formed (matching (getD tables t []) bs)) ⌝ }
 {
     let n = tab[t * 385] as usize;
     let mut k = 0;
@@ -82,7 +83,8 @@ fn raised(n: usize, half: usize) -> usize
 // The value of a matched form that is no switch, and the cursor behind its code.
 fn value_of(f: Form, w: u64, left: usize, c: Cursor) -> Read
     requires { ⌜ ((d : Structure) × (formOf d ≡ f) × (structureRight 8 d ≡ true) × (f .to ≡ 0)) × (f .prefix ≤ left) × (c .at ≤ 8388608) ⌝ }
-    ensures told { λ r. ⌜ ((d : Structure) (bs : List ℕ) → formOf d ≡ f → structureRight 8 d ≡ true → d .base < 65536 → Seen (drop (c .at) bs) w left → told bs r ≡ valueOf (remainderOf d) (d .base) (c .table) (drop (d .prefix) (drop (c .at) bs))) ⌝ }
+    ensures told { λ r. ⌜ ((d : Structure) (bs : List ℕ) → formOf d ≡ f → structureRight 8 d ≡ true → d .base < 65536
+        → Seen (drop (c .at) bs) w left → told bs r ≡ valueOf (remainderOf d) (d .base) (c .table) (drop (d .prefix) (drop (c .at) bs))) ⌝ }
     ensures onward { λ r. ⌜ Onward (c .at) (c .at + left) r ⌝ }
 {
     let at = c.at;
@@ -116,7 +118,8 @@ impl Cursor {
     // A code is matched in the current table: a value ends the step, a switch is followed.
     fn burst(self, s: &[u8], tab: &[u32], depth: usize) -> Burst
         requires { ⌜ Filled (now tab) × (length (now s) ≤ 1048576) × Within (length (now s) * 8) self ⌝ }
-        ensures told { λ r. ⌜ ((tables : List (List Structure)) → Ready tables (now (tab .entry)) → toldOf tables (bitsIn (now (s .entry))) r ≡ readCoded tables (self .table) (drop (self .at) (bitsIn (now (s .entry))))) ⌝ }
+        ensures told { λ r. ⌜ ((tables : List (List Structure)) → Ready tables (now (tab .entry))
+            → toldOf tables (bitsIn (now (s .entry))) r ≡ readCoded tables (self .table) (drop (self .at) (bitsIn (now (s .entry))))) ⌝ }
         ensures onward { λ r. ⌜ OnwardOf (self .at) (length (now (s .entry)) * 8) r ⌝ }
     {
         let at = self.at;
@@ -137,7 +140,8 @@ impl Cursor {
     // A switch gives no value: reading carries on in the table that it leads to, or hands back the cursor where the depth is used up.
     fn follow(self, s: &[u8], tab: &[u32], depth: usize, f: Form) -> Burst
         requires { ⌜ Filled (now tab) × (length (now s) ≤ 1048576) × Within (length (now s) * 8) self × Leads (self .at) (length (now s) * 8) f ⌝ }
-        ensures told { λ r. ⌜ ((tables : List (List Structure)) → Ready tables (now (tab .entry)) → toldOf tables (bitsIn (now (s .entry))) r ≡ readCoded tables (f .to) (drop (self .at + f .prefix) (bitsIn (now (s .entry))))) ⌝ }
+        ensures told { λ r. ⌜ ((tables : List (List Structure)) → Ready tables (now (tab .entry))
+            → toldOf tables (bitsIn (now (s .entry))) r ≡ readCoded tables (f .to) (drop (self .at + f .prefix) (bitsIn (now (s .entry))))) ⌝ }
         ensures onward { λ r. ⌜ OnwardOf (self .at) (length (now (s .entry)) * 8) r ⌝ }
     {
         let at = self.at;
@@ -153,7 +157,8 @@ impl Cursor {
     // The next value, by bursts: the loop around the bounded depth.
     fn by_bursts(self, s: &[u8], tab: &[u32]) -> Read
         requires { ⌜ Filled (now tab) × (length (now s) ≤ 1048576) × Within (length (now s) * 8) self ⌝ }
-        ensures told { λ r. ⌜ ((tables : List (List Structure)) → Ready tables (now (tab .entry)) → told (bitsIn (now (s .entry))) r ≡ readCoded tables (self .table) (drop (self .at) (bitsIn (now (s .entry))))) ⌝ }
+        ensures told { λ r. ⌜ ((tables : List (List Structure)) → Ready tables (now (tab .entry))
+            → told (bitsIn (now (s .entry))) r ≡ readCoded tables (self .table) (drop (self .at) (bitsIn (now (s .entry))))) ⌝ }
         ensures onward { λ r. ⌜ Onward (self .at) (length (now (s .entry)) * 8) r ⌝ }
     {
         let mut c = self;
@@ -173,7 +178,8 @@ impl Cursor {
     // that call each other run only where it is a switch's.
     fn coded(self, s: &[u8], tab: &[u32]) -> Read
         requires { ⌜ Filled (now tab) × (length (now s) ≤ 1048576) × Within (length (now s) * 8) self ⌝ }
-        ensures told { λ r. ⌜ ((tables : List (List Structure)) → Ready tables (now (tab .entry)) → told (bitsIn (now (s .entry))) r ≡ readCoded tables (self .table) (drop (self .at) (bitsIn (now (s .entry))))) ⌝ }
+        ensures told { λ r. ⌜ ((tables : List (List Structure)) → Ready tables (now (tab .entry))
+            → told (bitsIn (now (s .entry))) r ≡ readCoded tables (self .table) (drop (self .at) (bitsIn (now (s .entry))))) ⌝ }
         ensures onward { λ r. ⌜ Onward (self .at) (length (now (s .entry)) * 8) r ⌝ }
     {
         let at = self.at;
@@ -213,7 +219,8 @@ impl Cursor {
     // The next value of a stream: by the tables held, or, where none are (no Section 2), in two signed bytes.
     pub fn value(self, s: &[u8], tab: &[u32]) -> Read
         requires { ⌜ Held (now tab) × (length (now s) ≤ 1048576) ⌝ }
-        ensures told { λ r. ⌜ ((tables : List (List Structure)) → Holding tables (now (tab .entry)) → told (bitsIn (now (s .entry))) r ≡ readNext tables (self .table) (drop (self .at) (bitsIn (now (s .entry))))) ⌝ }
+        ensures told { λ r. ⌜ ((tables : List (List Structure)) → Holding tables (now (tab .entry))
+            → told (bitsIn (now (s .entry))) r ≡ readNext tables (self .table) (drop (self .at) (bitsIn (now (s .entry))))) ⌝ }
         ensures onward { λ r. ⌜ Onward (self .at) (length (now (s .entry)) * 8) r ⌝ }
     {
         let at = self.at;

@@ -80,7 +80,8 @@ fn smaller(tab: &[u32], t: usize, k: usize, best: usize) -> usize
 
 // A structure's form has a code for the value, 131,072 added.
 fn serves(f: Form, v: usize) -> bool
-    ensures { λ r. ⌜ ((n : ℕ) (c : Structure) → structureRight n c ≡ true → c .base < 65536 → formOf c ≡ f → (r ≡ true → kindOf c (lower 131072 v) ≡ gives) × (r ≡ false → kindOf c (lower 131072 v) ≡ gives → ⊥)) ⌝ }
+    ensures { λ r. ⌜ ((n : ℕ) (c : Structure) → structureRight n c ≡ true → c .base < 65536 → formOf c ≡ f
+        → (r ≡ true → kindOf c (lower 131072 v) ≡ gives) × (r ≡ false → kindOf c (lower 131072 v) ≡ gives → ⊥)) ⌝ }
 {
     if f.to != 0 {
         return false;
@@ -94,7 +95,9 @@ fn serves(f: Form, v: usize) -> bool
 // Structure k of table t, which serves the value, against the nearest of those before it.
 fn nearer(tab: &[u32], t: usize, k: usize, best: usize) -> usize
     requires { ⌜ Within (now tab) t × (k < countOf (now tab) t) × Place (now tab) t best ⌝ }
-    ensures { λ r. ⌜ ((tables : List (List Structure)) (x : ℕ) → Ready tables (now (tab .entry)) → kindOf (structureOf tables t k) (lower 131072 x) ≡ gives → Served tables x t k best → Served tables x t (k + 1) r) × Place (now (tab .entry)) t r ⌝ }
+    ensures { λ r. ⌜ ((tables : List (List Structure)) (x : ℕ) → Ready tables (now (tab .entry))
+        → kindOf (structureOf tables t k) (lower 131072 x) ≡ gives → Served tables x t k best → Served tables x t (k + 1) r)
+        × Place (now (tab .entry)) t r ⌝ }
 {
     if best == 64 {
         return k;
@@ -178,7 +181,8 @@ fn values(
     marks: &mut [u8],
 ) -> [usize; 9]
     requires { ⌜ FilledBy (now tab) n × Known (now tab) (now known) × (length (now marks) ≡ n) ⌝ }
-    ensures { λ r. ⌜ ((tables : List (List Structure)) → Ready tables (now (tab .entry)) → ValuedTo tables (now (next .entry)) v (now (marks .exit)) r (n + 1))
+    ensures { λ r. ⌜ ((tables : List (List Structure)) → Ready tables (now (tab .entry))
+        → ValuedTo tables (now (next .entry)) v (now (marks .exit)) r (n + 1))
         × Nine r × Known (now (tab .entry)) (now (known .exit)) ⌝ }
 {
     let mut cur = [NONE; 9];
@@ -289,7 +293,8 @@ fn pick(tab: &[u32], t: usize, near: usize, first: &[usize; 9], cur: &[usize; 9]
 // Among the marks of the n tables, the value's structures, those of the settled costs.
 fn mark(tab: &[u32], n: usize, first: &[usize; 9], cur: &[usize; 9], marks: &mut [u8])
     requires { ⌜ FilledBy (now tab) n × (length (now marks) ≡ n) × ((t : ℕ) → 1 ≤ t → t ≤ n → Place (now tab) t (getD (now marks) (t - 1) 0)) ⌝ }
-    ensures { λ _. ⌜ ((t : ℕ) → 1 ≤ t → t ≤ n → PickedFrom (now (tab .entry)) (now (first .entry)) (now (cur .entry)) t (getD (now (marks .entry)) (t - 1) 0) (getD (now (marks .exit)) (t - 1) 0)) ⌝ }
+    ensures { λ _. ⌜ ((t : ℕ) → 1 ≤ t → t ≤ n → PickedFrom (now (tab .entry)) (now (first .entry)) (now (cur .entry)) t
+        (getD (now (marks .entry)) (t - 1) 0) (getD (now (marks .exit)) (t - 1) 0)) ⌝ }
 {
     let mut t = 1;
     while t <= n {
@@ -340,7 +345,8 @@ fn layer(
     marks: &mut [u8],
 ) -> [usize; 9]
     requires { ⌜ FilledBy (now tab) n × Known (now tab) (now known) × (length (now marks) ≡ n) × (any ≡ false → NoSwitch (now tab) n) ⌝ }
-    ensures { λ r. ⌜ ((tables : List (List Structure)) (vs : List ℤ) → Ready tables (now (tab .entry)) → length tables ≡ n → Exact (rule tables) cap vs (at (now (next .entry))) → Layer tables (lower 131072 v) vs r (now (marks .exit)))
+    ensures { λ r. ⌜ ((tables : List (List Structure)) (vs : List ℤ) → Ready tables (now (tab .entry)) → length tables ≡ n
+        → Exact (rule tables) cap vs (at (now (next .entry))) → Layer tables (lower 131072 v) vs r (now (marks .exit)))
         × Nine r × Known (now (tab .entry)) (now (known .exit)) ⌝ }
 {
     let first = values(tab, n, v, next, known, marks);
@@ -355,7 +361,8 @@ fn layer(
 // The search, a layer for each value.
 fn all_layers(tab: &[u32], n: usize, any: bool, xs: &[i16], order: usize, work: &mut [u8]) -> usize
     requires { ⌜ FilledBy (now tab) n × (any ≡ false → NoSwitch (now tab) n) × (length (now xs) * n ≤ length (now work)) ⌝ }
-    ensures { λ r. ⌜ ((tables : List (List Structure)) → Ready tables (now (tab .entry)) → length tables ≡ n → Planned tables (differences order (now (xs .entry))) (now (work .exit)) r) × (r ≤ 524282) ⌝ }
+    ensures { λ r. ⌜ ((tables : List (List Structure)) → Ready tables (now (tab .entry)) → length tables ≡ n
+        → Planned tables (differences order (now (xs .entry))) (now (work .exit)) r) × (r ≤ 524282) ⌝ }
 {
     let mut known = unknown();
     let mut next = [0usize; 9];
@@ -373,7 +380,8 @@ fn all_layers(tab: &[u32], n: usize, any: bool, xs: &[i16], order: usize, work: 
 // The search where there is one table, and no switch: each value's structure is its first step, and their bits add up.
 fn one_table(tab: &[u32], xs: &[i16], order: usize, work: &mut [u8]) -> usize
     requires { ⌜ FilledBy (now tab) 1 × NoSwitch (now tab) 1 × (length (now xs) ≤ length (now work)) ⌝ }
-    ensures { λ r. ⌜ ((tables : List (List Structure)) → Ready tables (now (tab .entry)) → length tables ≡ 1 → Planned tables (differences order (now (xs .entry))) (now (work .exit)) r) × (r ≤ 524282) ⌝ }
+    ensures { λ r. ⌜ ((tables : List (List Structure)) → Ready tables (now (tab .entry)) → length tables ≡ 1
+        → Planned tables (differences order (now (xs .entry))) (now (work .exit)) r) × (r ≤ 524282) ⌝ }
 {
     let mut known = unknown();
     let mut cost = 0usize;
@@ -392,7 +400,9 @@ fn one_table(tab: &[u32], xs: &[i16], order: usize, work: &mut [u8]) -> usize
 // steps of the best streams go to the work space, a byte for each sample and table.
 pub fn plan(tab: &[u32], n: usize, xs: &[i16], order: usize, work: &mut [u8]) -> usize
     requires { ⌜ FilledBy (now tab) n × (length (now xs) ≤ 65536) × (length (now xs) * n ≤ length (now work)) ⌝ }
-    ensures { λ r. ⌜ ((tables : List (List Structure)) → Ready tables (now (tab .entry)) → length tables ≡ n → Planned tables (differences order (now (xs .entry))) (now (work .exit)) r) × (length (now (work .exit)) ≡ length (now (work .entry))) × (r ≤ 524282) ⌝ }
+    ensures { λ r. ⌜ ((tables : List (List Structure)) → Ready tables (now (tab .entry)) → length tables ≡ n
+        → Planned tables (differences order (now (xs .entry))) (now (work .exit)) r)
+        × (length (now (work .exit)) ≡ length (now (work .entry))) × (r ≤ 524282) ⌝ }
 {
     let any = has_switch(tab, n);
     if any {

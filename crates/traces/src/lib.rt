@@ -31,7 +31,10 @@ fn next_sample(
     other: usize,
 ) -> Step
     requires { ⌜ Held (now tab) × (length (now s) ≤ 1048576) × (last < 65536) × (other < 65536) ⌝ }
-    ensures told { λ r. ⌜ ((tables : List (List Structure)) (left : ℕ) → Holding tables (now (tab .entry)) → stepped (bitsIn (now (s .entry))) (λ x. rebuildFrom tables order left (place + 1) x (lower 32768 last)) r ≡ rebuildFrom tables order (suc left) place (lower 32768 last) (lower 32768 other) (c .table) (drop (c .at) (bitsIn (now (s .entry))))) ⌝ }
+    ensures told { λ r. ⌜ ((tables : List (List Structure)) (left : ℕ) → Holding tables (now (tab .entry))
+        → stepped (bitsIn (now (s .entry))) (λ x. rebuildFrom tables order left (place + 1) x (lower 32768 last)) r
+        ≡ rebuildFrom tables order (suc left) place (lower 32768 last) (lower 32768 other) (c .table)
+        (drop (c .at) (bitsIn (now (s .entry))))) ⌝ }
     ensures fits { λ r. ⌜ Stepped (length (now (s .entry)) * 8) r ⌝ }
 {
     match c.value(s, tab) {
@@ -52,7 +55,9 @@ fn next_sample(
 // The room is filled with the samples that a stream is rebuilt to: 0, or the number of the first fault met.
 pub fn rebuild(s: &[u8], tab: &[u32], order: usize, room: &mut [i16]) -> u8
     requires { ⌜ Held (now tab) × (length (now s) ≤ 1048576) ⌝ }
-    ensures { λ r. ⌜ ((tables : List (List Structure)) → Holding tables (now (tab .entry)) → traceOf r (now (room .exit)) ≡ rebuild tables order (length (now (room .entry))) (bitsIn (now (s .entry)))) × (length (now (room .exit)) ≡ length (now (room .entry))) ⌝ }
+    ensures { λ r. ⌜ ((tables : List (List Structure)) → Holding tables (now (tab .entry))
+        → traceOf r (now (room .exit)) ≡ rebuild tables order (length (now (room .entry))) (bitsIn (now (s .entry))))
+        × (length (now (room .exit)) ≡ length (now (room .entry))) ⌝ }
 {
     let n = room.len();
     let mut c = Cursor::new();

@@ -14,7 +14,8 @@ use Rattle.wire.proofs.Laws.{all-all}
 use Rattle.header.specs.Header.{section1Right}
 use Rattle.header.proofs.Moved.{section1-moved}
 use Rattle.pointers.specs.Pointers.{idOf, lengthOf, indexOf, endOf}
-use Rattle.record.specs.Rules.{lengthRight, holdsCheck, recordCheckRight, lettersRight, idRight, ownPointerRight, section0Right, placedRight, allPlacedRight, sectionCheckRight, checksRight, fieldsRight}
+use Rattle.record.specs.Rules.{lengthRight, holdsCheck, recordCheckRight, lettersRight, idRight, ownPointerRight}
+use Rattle.record.specs.Rules.{section0Right, placedRight, allPlacedRight, sectionCheckRight, checksRight, fieldsRight}
 use Rattle.record.specs.Opening.{openRefusal}
 use Rattle.layout.specs.Layout.{sectionLength, section2Size, checked, section2Bytes, letters, recordSize, recordBytes}
 use Rattle.layout.proofs.Laws.{length-pointersData, length-sectionBytes, length-recordBytes}
@@ -22,7 +23,8 @@ use Rattle.wire.proofs.Places.{stands-byte, stands-inner, stands-whole, stands-
 use Rattle.trip.proofs.Sections.{check-held, bodyOf, section-checked, section-id, section-reserved}
 use Rattle.trip.proofs.Frame as F
 use Rattle.trip.proofs.Frame.{sizes, indexes}
-use Rattle.trip.proofs.Placed.{Placed, absent-placed, absent-check, ends-before, placed-present, placed-end, placed-holds, placed-right, placed-check}
+use Rattle.trip.proofs.Placed.{Placed, absent-placed, absent-check, ends-before, placed-present}
+use Rattle.trip.proofs.Placed.{placed-end, placed-holds, placed-right, placed-check}
 
 module _ (v : ℕ) (d1 d2 d3 d6 : List ℕ) (small : length (recordBytes v d1 d2 d3 d6) ≤ 1048576) where
   -- the record, and where its sections start

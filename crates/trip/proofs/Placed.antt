@@ -13,7 +13,8 @@ use Rattle.record.specs.Rules.{placeRight, headerRepeats, sectionsApart, placed
 use Rattle.layout.specs.Layout.{evened, sectionLength, sectionBytes, zeroReserved}
 use Rattle.wire.proofs.Places.{Stands, stands-part, stands-end, stands-inner, stands-written}
 use Rattle.layout.proofs.Laws.{length-sectionBytes}
-use Rattle.trip.proofs.Sections.{Holds, headed-holds, check-held, bodyOf, headOf, section-headed, section-checked, length-head, section-id, section-size}
+use Rattle.trip.proofs.Sections.{Holds, headed-holds, check-held, bodyOf, headOf}
+use Rattle.trip.proofs.Sections.{section-headed, section-checked, length-head, section-id, section-size}
 
 -- section k with data d stands from a place on, and its pointer says so
 pub record Placed (r : List ℕ) (k v start : ℕ) (d : List ℕ) : Type 0 where

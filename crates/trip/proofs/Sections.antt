@@ -12,7 +12,8 @@ use lib.Seq.{getD-append-add}
 use Rattle.wire.specs.Numbers.{byteAt, numberAt, bytesOf, part}
 use Rattle.wire.specs.Check.{crcOf}
 use Rattle.wire.proofs.Laws.{length-bytesOf, crc-small}
-use Rattle.wire.proofs.Places.{Moved, Stands, stands-part, stands-inner, stands-first, stands-behind, stands-whole, stands-at, stands-written}
+use Rattle.wire.proofs.Places.{Moved, Stands, stands-part, stands-inner, stands-first}
+use Rattle.wire.proofs.Places.{stands-behind, stands-whole, stands-at, stands-written}
 use Rattle.bits.proofs.Windows.{zeros-behind}
 use Rattle.record.specs.Rules.{holdsCheck}
 use Rattle.layout.specs.Layout.{evened, sectionLength, checked, sectionBytes}

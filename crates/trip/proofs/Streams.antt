@@ -10,11 +10,13 @@ use lib.ListN.{length, getD, length-append}
 use Rattle.wire.specs.Numbers.{bytesOf}
 use Rattle.wire.specs.Rules.{every, endsBy}
 use Rattle.wire.proofs.Laws.{length-bytesOf}
-use Rattle.entries.specs.Streams.{stepOf, intervalOf, orderOf, bimodalOf, byteCountOf, bytesBefore, streamStart, streamOf, streamsRight, section6Right}
+use Rattle.entries.specs.Streams.{stepOf, intervalOf, orderOf, bimodalOf, byteCountOf}
+use Rattle.entries.specs.Streams.{bytesBefore, streamStart, streamOf, streamsRight, section6Right}
 use Rattle.layout.specs.Layout.{byteCountsOf, joined, streamsData}
 use Rattle.layout.proofs.Laws.{length-byteCountsOf, length-streamsData}
 use Rattle.compose.specs.Writing.{allShort}
-use Rattle.wire.proofs.Places.{Stands, stands-part, stands-byte, stands-inner, stands-first, stands-behind, stands-whole, stands-at, stands-written}
+use Rattle.wire.proofs.Places.{Stands, stands-part, stands-byte, stands-inner, stands-first}
+use Rattle.wire.proofs.Places.{stands-behind, stands-whole, stands-at, stands-written}
 use Rattle.trip.proofs.Sections.{Holds}
 
 -- the bytes of the first k streams together

@@ -14,7 +14,8 @@ use Rattle.wire.proofs.Laws.{kept-first}
 use Rattle.header.specs.Header.{section1Right}
 use Rattle.encode.specs.Encoding.{tablesGivenRight, workRight}
 use Rattle.compose.specs.declared.Written.{Written}
-use Rattle.compose.specs.Writing.{Job, jobRight, jobRefusal, cut, FoundAll, packedAll, allShort, recordOf, recordRefusal, writtenAs, recordOut, Wrote, refused, answered}
+use Rattle.compose.specs.Writing.{Job, jobRight, jobRefusal, cut, FoundAll, packedAll, allShort}
+use Rattle.compose.specs.Writing.{recordOf, recordRefusal, writtenAs, recordOut, Wrote, refused, answered}
 use Rattle.trip.specs.GivenBack.{JobFits, GivenBack}
 use Rattle.trip.proofs.Trip.{given-back}
 

@@ -27,8 +27,9 @@ returns c =
     let d = c .before in
     let start = d .before .stream-start .result in
     let end = start + d .stream-bytes .result in
-    let few = length-take (end - start) (drop start (d .before .before .before .args .s .now)) in
-    let e : length (c .part-of .result .now) ≡ length (part (d .before .before .before .args .s .now) start end) = ap length (c .part-of .ensures) in
+    let s = d .before .before .before .args .s .now in
+    let few = length-take (end - start) (drop start s) in
+    let e : length (c .part-of .result .now) ≡ length (part s start end) = ap length (c .part-of .ensures) in
     (cc, omega (arith, d .stream-bytes .ensures .1))
 
 pub stream-of-spec : {M : Type 1} → statement M

@@ -1,4 +1,4 @@
--- At every turn the last sample so far is at hand and the zones still to come decide; a wrong one decides, and after the last none is left to.
+-- At every turn the last sample so far is at hand and the zones still to come decide; a wrong one decides at once.
 use Prim.Native.Nat.{_-_}
 use mathlib.Core.Path.{_≡_, refl}
 use borrow.Author.Needs.{needs}

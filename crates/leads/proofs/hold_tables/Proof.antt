@@ -30,7 +30,8 @@ unfolding tablesRight
 compile-requires c κs =
     let d = c .before .before .before .before .before .before in
     let r = d .args .rec .now in
-    let judged = asked (present r 2) (section2Right 1 (sectionOf r 2) 16) (d .pre .1) (kept (c .before .before .before .is-present .ensures) (c .before .before .if1 .left)) in
+    let here = kept (c .before .before .before .is-present .ensures) (c .before .before .if1 .left) in
+    let judged = asked (present r 2) (section2Right 1 (sectionOf r 2) 16) (d .pre .1) here in
     (d .pre .0, omega arith, ap (λ (s : List ℕ). section2Right 1 s 16) (c .before .section-of .ensures) ∙ judged)
 
 same-length : tie.Need-same-length
@@ -39,8 +40,10 @@ same-length c = search needs
 returns-2 : tie.Need-returns-2
 returns-2 c =
     let d = c .before .before .before .before .before .before .before .before .before in
-    let here = kept (c .before .before .before .before .before .before .is-present .ensures) (c .before .before .before .before .before .if1 .left) in
-    (omega arith, tables-held (d .args .rec .now) _ _ here (c .before .before .before .before .section-of .ensures) (c .before .before .compile .ensures))
+    let e = c .before .before .before .before .before in
+    let here = kept (e .before .is-present .ensures) (e .if1 .left) in
+    let section = c .before .before .before .before .section-of .ensures in
+    (omega arith, tables-held (d .args .rec .now) _ _ here section (c .before .before .compile .ensures))
 
 pub hold-tables-spec : {M : Type 1} → statement M
 hold-tables-spec =

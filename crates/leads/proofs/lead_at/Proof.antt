@@ -11,8 +11,12 @@ use Rattle.leads.proofs.lead_at.Statement.{statement}
 use Rattle.leads.proofs.lead_at.Tie as tie
 
 -- the count is that of Section 3's entry
-count : (c : tie.After-sample-count) → c .sample-count .result ≡ sampleCountAt (c .before .before .before .before .before .before .before .before .before .args .rec .now) (c .before .before .before .before .before .before .before .before .before .args .k)
-count c = c .sample-count .ensures .0 ∙ ap (λ (s : List ℕ). sampleCount s (c .before .before .before .before .before .before .before .before .before .args .k)) (c .before .before .before .before .before .before .before .section-of .ensures)
+count : (c : tie.After-sample-count) → let a = c .before .before .before .before .before .before .before .before .before .args in
+    c .sample-count .result ≡ sampleCountAt (a .rec .now) (a .k)
+count c =
+    let a = c .before .before .before .before .before .before .before .before .before .args in
+    let three = c .before .before .before .before .before .before .before .section-of .ensures in
+    c .sample-count .ensures .0 ∙ ap (λ (s : List ℕ). sampleCount s (a .k)) three
 
 section-of-requires : tie.Need-section-of-requires
 section-of-requires c κs = search needs

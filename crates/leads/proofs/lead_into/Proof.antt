@@ -1,3 +1,4 @@
+-- Without a beat the residual is the lead; else the beat is rebuilt in the work space, which is cleared.
 use Prim.Native.Nat.{ℕ, _≤_}
 use mathlib.Core.Path.{_≡_, refl, sym, ap, _∙_}
 use mathlib.Core.Bool.{true}
@@ -24,7 +25,10 @@ beaten c = kept (c .before .has-beat .ensures) (c .if1 .left)
 -- and there is work space for it
 enough : (c : tie.After-beat-sample-count)
     → c .beat-sample-count .result ≤ length (c .before .before .before .before .before .args .work .now)
-enough c = let g = c .before .before .before .before .before .pre .1 .0 .beatRoom (beaten (c .before)) in omega (arith, c .beat-sample-count .ensures .0)
+enough c =
+    let start = c .before .before .before .before .before in
+    let g = start .pre .1 .0 .beatRoom (beaten (c .before)) in
+    omega (arith, c .beat-sample-count .ensures .0)
 
 has-beat-requires : tie.Need-has-beat-requires
 has-beat-requires c κs = search needs
@@ -60,10 +64,10 @@ slice-aggregate-with-beat c = sym (length-take-le _ _ (enough (c .before .before
 with-beat-requires : tie.Need-with-beat-requires
 with-beat-requires c κs =
     let d = c .before .before .before .before .before .before .before in
-    let e = length-take-le (c .before .before .beat-sample-count .result) (d .args .work .now) (enough (c .before .before)) ∙ c .before .before .beat-sample-count .ensures .0 in
+    let count = c .before .before .beat-sample-count in
+    let e = length-take-le (count .result) (d .args .work .now) (enough (c .before .before)) ∙ count .ensures .0 in
     let s = d .pre .1 .0 in
-    let whole : Readable (d .args .rec .now) (d .args .k)
-    (length (take (c .before .before .beat-sample-count .result) (d .args .work .now))) =
+    let whole : Readable (d .args .rec .now) (d .args .k) (length (take (count .result) (d .args .work .now))) =
     record {
       tables = s .tables;
       beat = s .beat;
@@ -86,10 +90,12 @@ same-length-3 c = search needs
 returns-2 : tie.Need-returns-2
 returns-2 c =
     let d = c .before .before .before .before .before .before .before .before .before .before .before .before .before in
+    let e = c .before .before .before .before .before in
+    let beat = beaten (e .before .before .before .before) in
     let same : length (c .before .clear .last .0) ≡ length (d .args .work .now) = search needs in (
-      c .before .before .before .before .before .with-beat .ensures .0,
-      c .before .before .before .before .before .with-beat .ensures .1,
-      rw (beaten (c .before .before .before .before .before .before .before .before .before)) (zeros (c .before .clear .last .0) _ (c .before .clear .ensures) same),
+      e .with-beat .ensures .0,
+      e .with-beat .ensures .1,
+      rw beat (zeros (c .before .clear .last .0) _ (c .before .clear .ensures) same),
     )
 
 pub lead-into-spec : {M : Type 1} → statement M

@@ -21,7 +21,8 @@ returns : tie.Need-returns
 returns c =
     let d = c .before .before .before .before .before .before .before .before in
     let read = c .before .before .before .lead-into in
-    let answer = out-fault (read .result) _ (d .args .out .now) (traceAt (d .args .rec .now) (d .args .k)) (c .if1 .taken) (read .ensures .0) in
+    let trace = traceAt (d .args .rec .now) (d .args .k) in
+    let answer = out-fault (read .result) _ (d .args .out .now) trace (c .if1 .taken) (read .ensures .0) in
     ((_, read .ensures .0), answer, read .ensures .2)
 
 copy-requires : tie.Need-copy-requires
@@ -40,8 +41,11 @@ returns-2 : tie.Need-returns-2
 returns-2 c =
     let d = c .before .before .before .before .before .before .before .before .before .before .before .before in
     let read = c .before .before .before .before .before .before .before .lead-into in
-    let answer = out-rebuilt (read .result) _ (d .args .out .now) (traceAt (d .args .rec .now) (d .args .k)) (c .before .before .before .before .if1 .left) (read .ensures .0) in
-    ((_, ap (λ (n : ℕ). traceOf n (c .before .before .before .before .before .before .before .lead-into .last .1 .1 .1 .0)) (sym (c .before .before .before .before .if1 .left)) ∙ read .ensures .0), c .before .copy .ensures ∙ answer, read .ensures .2)
+    let none = c .before .before .before .before .if1 .left in
+    let trace = traceAt (d .args .rec .now) (d .args .k) in
+    let answer = out-rebuilt (read .result) _ (d .args .out .now) trace none (read .ensures .0) in
+    let rebuilt = ap (λ (n : ℕ). traceOf n (read .last .1 .1 .1 .0)) (sym none) ∙ read .ensures .0 in
+    ((_, rebuilt), c .before .copy .ensures ∙ answer, read .ensures .2)
 
 pub lead-out-spec : {M : Type 1} → statement M
 lead-out-spec =

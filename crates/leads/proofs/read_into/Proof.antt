@@ -12,8 +12,11 @@ use Rattle.leads.proofs.read_into.Statement.{statement}
 use Rattle.leads.proofs.read_into.Tie as tie
 
 -- the count is that of Section 3's entry
-count : (c : tie.After-sample-count) → c .sample-count .result ≡ sampleCountAt (c .before .before .before .before .before .before .before .args .rec .now) (c .before .before .before .before .before .before .before .args .k)
-count c = c .sample-count .ensures .0 ∙ ap (λ (s : List ℕ). sampleCount s (c .before .before .before .before .before .before .before .args .k)) (c .before .section-of .ensures)
+count : (c : tie.After-sample-count) → let a = c .before .before .before .before .before .before .before .args in
+    c .sample-count .result ≡ sampleCountAt (a .rec .now) (a .k)
+count c =
+    let a = c .before .before .before .before .before .before .before .args in
+    c .sample-count .ensures .0 ∙ ap (λ (s : List ℕ). sampleCount s (a .k)) (c .before .section-of .ensures)
 
 table-room-requires : tie.Need-table-room-requires
 table-room-requires c κs = search needs
@@ -38,20 +41,24 @@ array-share-prefix-tab c = search needs
 
 slice-aggregate-lead-out : tie.Need-slice-aggregate-lead-out
 slice-aggregate-lead-out c =
-    let inside : c .before .before .before .before .before .hold-tables .result ≤ length (c .before .before .before .before .before .hold-tables .last .1 .0) = search needs in
+    let held = c .before .before .before .before .before .hold-tables in
+    let inside : held .result ≤ length (held .last .1 .0) = search needs in
     sym (length-take-le _ _ inside)
 
 array-borrow-prefix-room : tie.Need-array-borrow-prefix-room
-array-borrow-prefix-room c = omega (arith, count (c .before .before), c .before .before .before .before .before .before .before .before .before .pre .0 .count)
+array-borrow-prefix-room c =
+    let start = c .before .before .before .before .before .before .before .before .before in
+    omega (arith, count (c .before .before), start .pre .0 .count)
 
 slice-aggregate-lead-out-2 : tie.Need-slice-aggregate-lead-out-2
 slice-aggregate-lead-out-2 c = sym (length-take-le _ _ (array-borrow-prefix-room (c .before)))
 
 lead-out-requires : tie.Need-lead-out-requires
 lead-out-requires c κs =
-    let d = c .before .before .before .before .before .before .before .before .before .before .before .before in (
+    let d = c .before .before .before .before .before .before .before .before .before .before .before .before in
+    let room = length-take-le _ _ (array-borrow-prefix-room (c .before .before .before)) in (
       c .before .before .before .before .before .before .before .before .hold-tables .ensures .1,
-      (d .pre .0, (length-take-le _ _ (array-borrow-prefix-room (c .before .before .before)) ∙ count (c .before .before .before .before .before), d .pre .1)),
+      (d .pre .0, (room ∙ count (c .before .before .before .before .before), d .pre .1)),
     )
 
 same-length : tie.Need-same-length

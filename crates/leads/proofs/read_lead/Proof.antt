@@ -15,7 +15,9 @@ use Rattle.leads.proofs.read_lead.Tie as tie
 
 -- none of 1 to 11 applies
 here : (c : tie.Else1) → let a = c .before .before .before .args in
-    (1 ≤ a .place) × Readable (a .rec .now) (a .place - 1) (length (a .work .now)) × (sampleCountAt (a .rec .now) (a .place - 1) ≤ length (a .out .now))
+    (1 ≤ a .place)
+    × Readable (a .rec .now) (a .place - 1) (length (a .work .now))
+    × (sampleCountAt (a .rec .now) (a .place - 1) ≤ length (a .out .now))
 here c =
     let a = c .before .before .before .args in
     readable (a .rec .now) (a .place) (length (a .out .now)) (length (a .work .now)) (sym (c .before .read-refusal .ensures) ∙ c .if1 .left)
@@ -25,14 +27,16 @@ read : (c : tie.Else1) → let a = c .before .before .before .args in
     readTrace (a .rec .now) (a .place) (length (a .out .now)) (length (a .work .now)) ≡ traceAt (a .rec .now) (a .place - 1)
 read c =
     let a = c .before .before .before .args in
-    read-on (a .rec .now) (a .place) (length (a .out .now)) (length (a .work .now)) (c .before .read-refusal .result) (c .before .read-refusal .ensures) (c .if1 .left)
+    let refusal = c .before .read-refusal in
+    read-on (a .rec .now) (a .place) (length (a .out .now)) (length (a .work .now)) (refusal .result) (refusal .ensures) (c .if1 .left)
 
 -- and the work space is as the reading leaves it
 cleared : (c : tie.Else1) → let a = c .before .before .before .args in
     clearedIf (beatSubtracted (a .rec .now)) (a .work .now) ≡ workAfter (a .rec .now) (a .place) (length (a .out .now)) (a .work .now)
 cleared c =
     let a = c .before .before .before .args in
-    work-read (a .rec .now) (a .place) (length (a .out .now)) (c .before .read-refusal .result) (a .work .now) (c .before .read-refusal .ensures) (c .if1 .left)
+    let refusal = c .before .read-refusal in
+    work-read (a .rec .now) (a .place) (length (a .out .now)) (refusal .result) (a .work .now) (refusal .ensures) (c .if1 .left)
 
 read-refusal-requires : tie.Need-read-refusal-requires
 read-refusal-requires c κs = search needs
@@ -73,10 +77,11 @@ returns-2 c =
     let r = a .rec .now in
     let k = a .place - 1 in
     let got = c .before .before .before .before .read-into in
-    let on = read (c .before .before .before .before .before .before .before) in
+    let start = c .before .before .before .before .before .before .before in
+    let on = read start in
     let t = trace-fault r k (got .result) (got .ensures .0 .0) (got .ensures .0 .1) (c .before .if2 .taken) in (
       c .refused2 .ensures r k ∙ ap (λ (u : Trace). leadOf r k u) (t ∙ sym on),
-      (got .ensures .1 ∙ ap (λ (u : Trace). outAfter u (a .out .now)) (sym on), got .ensures .2 ∙ cleared (c .before .before .before .before .before .before .before)),
+      (got .ensures .1 ∙ ap (λ (u : Trace). outAfter u (a .out .now)) (sym on), got .ensures .2 ∙ cleared start),
     )
 
 sub-lead-at : tie.Need-sub-lead-at
@@ -99,11 +104,12 @@ returns-3 c =
     let r = a .rec .now in
     let k = a .place - 1 in
     let got = c .before .before .before .before .read-into in
-    let on = read (c .before .before .before .before .before .before .before) in
+    let start = c .before .before .before .before .before .before .before in
+    let on = read start in
     let xs = got .ensures .0 .0 in
     let t = trace-rebuilt r k (got .result) xs (got .ensures .0 .1) (c .before .if2 .left) in (
       c .lead-at .ensures xs (trace-length r k xs t) ∙ ap (λ (u : Trace). leadOf r k u) (t ∙ sym on),
-      (got .ensures .1 ∙ ap (λ (u : Trace). outAfter u (a .out .now)) (sym on), got .ensures .2 ∙ cleared (c .before .before .before .before .before .before .before)),
+      (got .ensures .1 ∙ ap (λ (u : Trace). outAfter u (a .out .now)) (sym on), got .ensures .2 ∙ cleared start),
     )
 
 pub read-lead-spec : {M : Type 1} → statement M

@@ -19,14 +19,14 @@ room-right-requires c κs = sym (c .before .lead-refusal .ensures) ∙ c .if1 .l
 returns-2 : tie.Need-returns-2
 unfolding readRefusal
 returns-2 c =
-    simp
-    (same (c .before .before .before .lead-refusal .ensures) refl (c .before .before .if1 .left), broken (c .before .room-right .ensures) (c .if2 .taken))
+    let none = same (c .before .before .before .lead-refusal .ensures) refl (c .before .before .if1 .left) in
+    simp (none, broken (c .before .room-right .ensures) (c .if2 .taken))
 
 returns-3 : tie.Need-returns-3
 unfolding readRefusal
 returns-3 c =
-    simp
-    (same (c .before .before .before .lead-refusal .ensures) refl (c .before .before .if1 .left), kept (c .before .room-right .ensures) (c .if2 .left))
+    let none = same (c .before .before .before .lead-refusal .ensures) refl (c .before .before .if1 .left) in
+    simp (none, kept (c .before .room-right .ensures) (c .if2 .left))
 
 pub read-refusal-spec : {M : Type 1} → statement M
 read-refusal-spec =

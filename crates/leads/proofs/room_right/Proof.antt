@@ -17,7 +17,8 @@ use Rattle.leads.proofs.room_right.Statement.{statement}
 use Rattle.leads.proofs.room_right.Tie as tie
 
 -- the count is that of Section 3's entry
-count : (c : tie.After-sample-count) → let a = c .before .before .before .args in c .sample-count .result ≡ sampleCountAt (a .rec .now) (a .place - 1)
+count : (c : tie.After-sample-count) → let a = c .before .before .before .args in
+    c .sample-count .result ≡ sampleCountAt (a .rec .now) (a .place - 1)
 count c =
     let a = c .before .before .before .args in
     c .sample-count .ensures .0 ∙ ap (λ (s : List ℕ). sampleCount s (a .place - 1)) (c .before .section-of .ensures)
@@ -65,14 +66,16 @@ unfolding roomRight
 returns-3 c =
     let a = c .before .before .before .before .before .before .before .before .args in
     let e = c .before .beat-sample-count .ensures .0 in
-    simp (enough (c .before .before .before .before), kept (c .before .before .before .has-beat .ensures) (c .before .before .if2 .left), lt-leb (beatSampleCount (a .rec .now)) (a .work) (omega arith))
+    let beat = kept (c .before .before .before .has-beat .ensures) (c .before .before .if2 .left) in
+    simp (enough (c .before .before .before .before), beat, lt-leb (beatSampleCount (a .rec .now)) (a .work) (omega arith))
 
 returns-4 : tie.Need-returns-4
 unfolding roomRight
 returns-4 c =
     let a = c .before .before .before .before .before .before .before .before .args in
     let e = c .before .beat-sample-count .ensures .0 in
-    simp (enough (c .before .before .before .before), kept (c .before .before .before .has-beat .ensures) (c .before .before .if2 .left), le-leb (beatSampleCount (a .rec .now)) (a .work) (omega arith))
+    let beat = kept (c .before .before .before .has-beat .ensures) (c .before .before .if2 .left) in
+    simp (enough (c .before .before .before .before), beat, le-leb (beatSampleCount (a .rec .now)) (a .work) (omega arith))
 
 pub room-right-spec : {M : Type 1} → statement M
 room-right-spec =

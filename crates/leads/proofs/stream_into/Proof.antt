@@ -37,7 +37,8 @@ returns c =
     let n = length (d .args .room .now) in
     let s = c .before .before .before .before .before .before .section-of .ensures in
     let leads = c .before .before .before .before .before .leads-of .ensures .0 in
-    let stream = c .before .before .before .before .stream-of .ensures .0 ∙ ap₂ (λ (m : ℕ) (l : List ℕ). streamOf m l (d .args .k)) leads s in
+    let own = c .before .before .before .before .stream-of .ensures .0 in
+    let stream = own ∙ ap₂ (λ (m : ℕ) (l : List ℕ). streamOf m l (d .args .k)) leads s in
     let order = c .before .before .before .byte .ensures .0 ∙ ap (λ (l : List ℕ). orderOf l) s in (
       c .before .rebuild .ensures .0 (tablesOf r) (d .pre .0)
           ∙ ap₂ (λ (o : ℕ) (l : List ℕ). rebuild (tablesOf r) o n (bitsIn l)) order stream,

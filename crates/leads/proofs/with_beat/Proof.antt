@@ -48,7 +48,8 @@ returns-2 c =
     let d = c .before .before .before .before .before .before .before .before .before .before .before .before in
     let r = d .args .rec .now in
     let k = d .args .k in
-    let beat = c .before .before .before .before .before .before .stream-into .ensures .0 ∙ ap (λ (n : ℕ). streamTrace r 5 n k) (d .pre .1 .1 .1) in
+    let first = c .before .before .before .before .before .before .stream-into in
+    let beat = first .ensures .0 ∙ ap (λ (n : ℕ). streamTrace r 5 n k) (d .pre .1 .1 .1) in
     let behind = c .before .before .stream-into2 .ensures .0 ∙ ap (λ (n : ℕ). streamTrace r 6 n k) (d .pre .1 .1 .0) in (
       residual-fault r k (d .pre .1 .1 .2) _ _ beat (c .before .before .before .before .if1 .left) _ _ behind _ (c .if2 .taken),
       c .before .before .stream-into2 .ensures .1,
@@ -78,17 +79,24 @@ same-length-5 c = search needs
 returns-3 : tie.Need-returns-3
 unfolding residual
 returns-3 c =
-    let d = c .before .before .before .before .before .before .before .before .before .before .before .before .before .before .before .before .before in
-    let r = d .args .rec .now in
-    let k = d .args .k in
-    let beat = c .before .before .before .before .before .before .before .before .before .before .before .stream-into .ensures .0 ∙ ap (λ (n : ℕ). streamTrace r 5 n k) (d .pre .1 .1 .1) in
-    let behind = c .before .before .before .before .before .before .before .stream-into2 .ensures .0 ∙ ap (λ (n : ℕ). streamTrace r 6 n k) (d .pre .1 .1 .0) in
-    let first = c .before .before .before .before .before .before .before .before .before .before .before .before .before .first-sample .ensures .0 ∙ ap (λ (s : List ℕ). firstSample s k) (c .before .before .before .before .before .before .before .before .before .before .before .before .before .before .section-of .ensures) in
+    let e = c .before .before .before .before .before .before .before in
+    let into = e .before .before .before .before in
+    let start = into .before .before .before .before .before .before in
+    let r = start .args .rec .now in
+    let k = start .args .k in
+    let five = into .stream-into in
+    let six = e .stream-into2 in
+    let beat = five .ensures .0 ∙ ap (λ (n : ℕ). streamTrace r 5 n k) (start .pre .1 .1 .1) in
+    let behind = six .ensures .0 ∙ ap (λ (n : ℕ). streamTrace r 6 n k) (start .pre .1 .1 .0) in
+    let three = into .before .before .before .section-of .ensures in
+    let first = into .before .before .first-sample .ensures .0 ∙ ap (λ (s : List ℕ). firstSample s k) three in
     let sums =
     c .before .add-beat .ensures .0
-    ∙ ap₂ (λ (s : List ℕ) (n : ℕ). addBeat s (c .before .before .before .before .before .before .before .before .before .before .before .stream-into .last .1 .1 .1 .1 .0) n (c .before .before .before .before .before .before .before .stream-into2 .last .1 .1 .1 .1 .0)) (c .before .before .before .before .section-of2 .ensures) first in (
-      beat-added r k (d .pre .1 .1 .2) _ _ beat (c .before .before .before .before .before .before .before .before .before .if1 .left) _ _ behind (c .before .before .before .before .before .if2 .left) _ sums,
-      c .before .add-beat .ensures .1 ∙ c .before .before .before .before .before .before .before .stream-into2 .ensures .1,
+    ∙ ap₂ (λ (s : List ℕ) (n : ℕ). addBeat s (five .last .1 .1 .1 .1 .0) n (six .last .1 .1 .1 .1 .0))
+    (c .before .before .before .before .section-of2 .ensures) first in (
+      beat-added r k (start .pre .1 .1 .2) _ _ beat (e .before .before .if1 .left) _ _ behind
+          (c .before .before .before .before .before .if2 .left) _ sums,
+      c .before .add-beat .ensures .1 ∙ six .ensures .1,
     )
 
 pub with-beat-spec : {M : Type 1} → statement M

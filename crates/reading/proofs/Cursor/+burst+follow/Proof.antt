@@ -143,8 +143,9 @@ module _ (t : ℕ) where
       let a = c .before .before .before .before .before .before .before .args in
       let bs = drop (a .self .at) (bitsIn (a .s .now)) in (
         λ tables ready.
-            let told = sym (ap foundIn (c .enum-told .given .1)) ∙ c .before .before .find .ensures tables bs ready (seen (c .before .before .before)) in
-            sym (read-none (length tables) tables (ready .right) (a .self .table) bs (found-none tables (a .self .table) bs (omega arith) told)),
+            let looked = c .before .before .find .ensures tables bs ready (seen (c .before .before .before)) in
+            let none = found-none tables (a .self .table) bs (omega arith) (sym (ap foundIn (c .enum-told .given .1)) ∙ looked) in
+            sym (read-none (length tables) tables (ready .right) (a .self .table) bs none),
         tt,
       )
 
@@ -164,7 +165,8 @@ module _ (t : ℕ) where
   follow-returns-2 c =
       let a = c .before .before .before .before .args in (
         c .burst .ensures .0,
-        onward-of-from (a .self .at) (a .self .at + a .f .prefix) (length (a .s .now) * 8) (omega arith) (c .burst .result) (c .burst .ensures .1),
+        onward-of-from (a .self .at) (a .self .at + a .f .prefix) (length (a .s .now) * 8) (omega arith) (c .burst .result)
+            (c .burst .ensures .1),
       )
 
 pub +burst+follow-spec : {M : Type 1} → statement M

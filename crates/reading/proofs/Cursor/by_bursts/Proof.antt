@@ -55,7 +55,8 @@ further : (c : tie.After-known-told2 Inv-loop μ-loop) →
     (c .before .before .before .before .loop .c .at < d .at) × Within n d
 further c =
     let n = length (c .before .before .before .before .before .before .before .args .s .now) * 8 in
-    subst (OnwardOf (c .before .before .before .before .loop .c .at) n) (c .before .d .given .1) (c .before .before .before .burst .ensures .1)
+    let burst = c .before .before .before in
+    subst (OnwardOf (burst .before .loop .c .at) n) (c .before .d .given .1) (burst .burst .ensures .1)
 
 loop-less : tie.Need-loop-less Inv-loop μ-loop
 loop-less c = omega (arith, further c)

@@ -146,8 +146,9 @@ returns-4 c =
     let a = c .before .before .before .before .before .before .before .args in
     let bs = drop (a .self .at) (bitsIn (a .s .now)) in (
       λ tables ready.
-          let told = sym (ap foundIn (c .enum-told .given .1)) ∙ c .before .before .find .ensures tables bs ready (seen (c .before .before .before)) in
-          sym (read-none (length tables) tables (ready .right) (a .self .table) bs (found-none tables (a .self .table) bs (omega arith) told)),
+          let looked = c .before .before .find .ensures tables bs ready (seen (c .before .before .before)) in
+          let none = found-none tables (a .self .table) bs (omega arith) (sym (ap foundIn (c .enum-told .given .1)) ∙ looked) in
+          sym (read-none (length tables) tables (ready .right) (a .self .table) bs none),
       tt,
     )
 

@@ -64,7 +64,8 @@ returns-5 c =
     let a = c .before .before .before .before .before .before .before .args in (
       λ tables held.
           let ready = held-ready tables (a .tab .now) held (c .before .before .before .if2 .left) in
-          c .coded .ensures .0 tables ready ∙ sym (next-coded tables (ready .some) (a .self .table) (drop (a .self .at) (bitsIn (a .s .now)))),
+          c .coded .ensures .0 tables ready
+          ∙ sym (next-coded tables (ready .some) (a .self .table) (drop (a .self .at) (bitsIn (a .s .now)))),
       c .coded .ensures .1,
     )
 
