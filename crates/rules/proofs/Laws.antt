@@ -11,7 +11,8 @@ use Rattle.record.specs.Opening.{openRefusal, opens}
 use Rattle.entries.specs.Leads.{section3Right}
 use Rattle.entries.specs.Streams.{streamsRight, section6Right}
 use Rattle.entries.specs.Beat.{section4Right}
-use Rattle.rules.specs.Rules.{tablesRight, leadCountOf, beatSubtracted, beatSampleCount, beatRight, section6Kept, sections3To6Right, agrees, hasLead, leadRefusal}
+use Rattle.rules.specs.Rules.{tablesRight, leadCountOf, beatSubtracted, beatSampleCount, beatRight}
+use Rattle.rules.specs.Rules.{section6Kept, sections3To6Right, agrees, hasLead, leadRefusal}
 
 pub record Sound (r : List ℕ) (place : ℕ) : Type 0 where
   pub tables : tablesRight r ≡ true

@@ -16,13 +16,15 @@ use lib.Signed.{mag}
 use Rattle.wire.proofs.Laws.{unlike}
 use Rattle.wire.specs.Rules.{every}
 use Rattle.bits.specs.Bits.{highFirst, numberOf, signed}
-use Rattle.bits.proofs.Laws.{Small, length-highFirst, length-lowFirst, small-append, small-behind, small-take, small-drop, small-highFirst, small-lowFirst, number-small, own-bits}
+use Rattle.bits.proofs.Laws.{Small, length-highFirst, length-lowFirst, small-append, small-behind, small-take}
+use Rattle.bits.proofs.Laws.{small-drop, small-highFirst, small-lowFirst, number-small, own-bits}
 use Rattle.tables.specs.declared.Structure.{Structure}
 use Rattle.tables.specs.Structures.{prefixOf, remainderOf}
 use Rattle.tables.specs.Section2.{tableOf, tableRight}
 use Rattle.tables.proofs.Laws.{Fine, fine}
 use Rattle.reading.specs.Reading.{gave, stuck, matching, valueOf, readCoded, readNext}
-use Rattle.reading.proofs.Laws.{structure-there, matched, falls, read-switch, read-value, read-none, next-coded, gave-value, gave-table, gave-rest}
+use Rattle.reading.proofs.Laws.{structure-there, matched, falls, read-switch, read-value}
+use Rattle.reading.proofs.Laws.{read-none, next-coded, gave-value, gave-table, gave-rest}
 use Rattle.reading.proofs.Trip.{trip-switch, trip-base, trip-rest}
 use Rattle.paths.specs.InnerPaths.{There, Sound, Reads, done, value, switch, Best, Exact, gives, leads}
 use Rattle.paths.proofs.Optimal.{exact-none}
@@ -30,7 +32,8 @@ use Rattle.paths.proofs.Compared.{compared-unique}
 use Rattle.shortest.specs.Shortest as S
 use Rattle.shortest.specs.Shortest.{areBits, ReadsTo, Stream, Shortest, NoStream}
 use Rattle.shortest.specs.InnerRule.{twos, holds, serves, kindOf, wordOf, structureOf, rule}
-use Rattle.shortest.proofs.Laws.{twos-small, signed-twos, twos-signed, equal-true, equal-self, bits-small, small-bits, kind-switch, kind-value, leads-switch, gives-value}
+use Rattle.shortest.proofs.Laws.{twos-small, signed-twos, twos-signed, equal-true, equal-self, bits-small}
+use Rattle.shortest.proofs.Laws.{small-bits, kind-switch, kind-value, leads-switch, gives-value}
 
 -- ---- the promise
 

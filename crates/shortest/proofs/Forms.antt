@@ -5,7 +5,8 @@ use mathlib.Core.Path.{_≡_, refl, sym, ap, ap₂, _∙_}
 use mathlib.Core.Bool.{Bool, true, false, cond, not, _&&_}
 use mathlib.Core.List.{List, [], _∷_, _++_}
 use mathlib.Core.Logic.{_⊎_, inl, inr, ⊎-elim}
-use native.Mathlib.Nat.{eq-or-lt-of-le, mod-lt, mod-eq-of-lt, lt-of-mul-lt-mul-right, mul-add-mod-self-right, mul-le-mul-right, add-mul, mul-assoc, zero-add}
+use native.Mathlib.Nat.{eq-or-lt-of-le, mod-lt, mod-eq-of-lt, lt-of-mul-lt-mul-right, mul-add-mod-self-right}
+use native.Mathlib.Nat.{mul-le-mul-right, add-mul, mul-assoc, zero-add}
 use native.Mathlib.Decide.{decLt, ℕ-discrete}
 use native.Mathlib.Omega.{arith}
 use borrow.Author.Tests.{ltb-true, ltb-false, lt-ltb, le-ltb, eq-eqb, ne-eqb, eqb-true, eqb-false}
@@ -92,7 +93,8 @@ serves-outside zero base x h b o = go (equal (signed 16 base) (lower 131072 x)) 
   where
     go : (t : Bool) → equal (signed 16 base) (lower 131072 x) ≡ t → t ≡ false
     go true e =
-        let q : lowest base 0 ≡ x = lower-one 131072 (lowest base 0) x (lower-base base b ∙ equal-true (signed 16 base) (lower 131072 x) e) in
+        let same = equal-true (signed 16 base) (lower 131072 x) e in
+        let q : lowest base 0 ≡ x = lower-one 131072 (lowest base 0) x (lower-base base b ∙ same) in
         absurd (⊎-elim (λ l. omega arith) (λ l. omega arith) o)
     go false e = refl
 serves-outside (suc w) base x h b o =

@@ -16,7 +16,8 @@ use lib.Signed.{mag}
 use Rattle.wire.specs.Numbers.{bytesOf}
 use Rattle.wire.proofs.Laws.{unlike}
 use Rattle.bits.specs.Bits.{highFirst, bitsIn, numberOf, signed}
-use Rattle.bits.proofs.Laws.{Small, length-highFirst, bitsIn-append, small-behind, small-take, small-drop, small-bitsIn, number-small, number-high, own-bits}
+use Rattle.bits.proofs.Laws.{Small, length-highFirst, bitsIn-append, small-behind, small-take}
+use Rattle.bits.proofs.Laws.{small-drop, small-bitsIn, number-small, number-high, own-bits}
 use Rattle.reading.specs.Reading.{gave, stuck, readPlain, readNext}
 use Rattle.reading.proofs.Laws.{gave-value, gave-table, gave-rest}
 use Rattle.shortest.specs.Shortest.{ReadsTo, done, value, Shortest, NoStream}

@@ -31,7 +31,7 @@ returns-2 : tie.Need-returns-2
 unfolding agrees
 returns-2 c =
     let d = c .before .before .before in
-    simp (kept (d .before .is-present .ensures) (d .if1 .left), differ (bimodal (c .before)) refl (c .if2 .taken))
+    simp (kept (d .before .is-present .ensures) (d .if1 .left), differ {b = 0} (bimodal (c .before)) refl (c .if2 .taken))
 
 steps-agree-requires : tie.Need-steps-agree-requires
 steps-agree-requires c κs = search needs
@@ -41,7 +41,7 @@ unfolding agrees
 returns-3 c =
     let d2 = c .before in
     let d1 = d2 .before .before .before in
-    simp (kept (d1 .before .is-present .ensures) (d1 .if1 .left), same (bimodal (d2 .before)) refl (d2 .if2 .left))
+    simp (kept (d1 .before .is-present .ensures) (d1 .if1 .left), same {b = 0} (bimodal (d2 .before)) refl (d2 .if2 .left))
     (c .steps-agree .ensures)
 
 pub is-agreed-spec : {M : Type 1} → statement M

@@ -39,7 +39,8 @@ left2 c = simp (kept (c .before .tables-right .ensures) (c .if2 .left)) at (left
 left3 : (c : tie.Else3) → let a = c .before .before .before .before .before .before .before .args in Left from9 (a .rec .now) (a .place)
 left3 c = simp (kept (c .before .leads-right .ensures) (c .if3 .left)) at (left2 (c .before .before))
 
-left4 : (c : tie.Else4) → let a = c .before .before .before .before .before .before .before .before .before .args in Left from10 (a .rec .now) (a .place)
+left4 : (c : tie.Else4) → let a = c .before .before .before .before .before .before .before .before .before .args in
+    Left from10 (a .rec .now) (a .place)
 left4 c = simp (kept (c .before .is-agreed .ensures) (c .if4 .left)) at (left3 (c .before .before))
 
 refusal-of-requires : tie.Need-refusal-of-requires
