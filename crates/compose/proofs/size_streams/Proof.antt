@@ -114,7 +114,8 @@ slice-write-sizes : tie.Need-slice-write-sizes Inv-loop μ-loop
 slice-write-sizes c =
     let i = c .before .before .before .before .before .before .before .before in
     let l = i .loop in
-    omega (arith, c .before .before .before .before .before .before .before .loop-test .taken, l .inv .0, l .inv .3, i .before .before .before .before .before .before .before .pre .1)
+    let t = c .before .before .before .before .before .before .before .loop-test .taken in
+    omega (arith, t, l .inv .0, l .inv .3, i .before .before .before .before .before .before .before .pre .1)
 
 loop-less : tie.Need-loop-less Inv-loop μ-loop
 loop-less c = omega (arith, c .before .before .before .before .before .before .before .loop-test .taken)

@@ -1,11 +1,11 @@
 -- What is found decides: a refusal, or Section 6 in its place.
 use Prim.Native.Nat.{ℕ, _+_, _-_, _≤_}
-use mathlib.Core.Path.{_≡_, refl, sym, ap, _∙_, subst}
+use mathlib.Core.Path.{_≡_, refl, sym, _∙_, subst}
 use mathlib.Core.List.{List}
 use native.Mathlib.Omega.{arith}
 use native.Mathlib.Nat.{le-trans, le-of-eq}
 use borrow.Rule.Slice.PartMut.{mid-len, same-len-mid}
-use lib.ListN.{length, take, drop}
+use lib.ListN.{length, take}
 use lib.Seq.{length-take-le}
 use Rattle.layout.specs.Layout.{sectionLength}
 use Rattle.compose.specs.Writing.{cut}
@@ -141,7 +141,8 @@ same-length-3 c =
     let w = c .before .before .before .before .write-streams in
     let from = g .front-size .result in
     let to = g .before .before .before .judged .result .bytes in
-    same-len-mid from (to - from) (start (searched (g .before)) .args .out .now) (w .last .1 .1 .1 .1 .1 .1 .1 .0) (w .kept .1 .1 .1 .1 .1 .1 .1 .0)
+    let a = start (searched (g .before)) .args in
+    same-len-mid from (to - from) (a .out .now) (w .last .1 .1 .1 .1 .1 .1 .1 .0) (w .kept .1 .1 .1 .1 .1 .1 .1 .0)
 
 returns-2 : tie.Need-returns-2
 returns-2 c =

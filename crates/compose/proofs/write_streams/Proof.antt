@@ -48,18 +48,21 @@ put-streams-requires c κs =
 put-spare-requires : tie.Need-put-spare-requires
 put-spare-requires c κs =
     let d = c .before .before .before .before .before in
-    let p = d .before .before .before .before .before .before .before .before .before .before .before .before .before .before .pre in
+    let s = d .before .before .before .before .before .before .before .before .before .before .before .before .before .before in
     let t = d .before .before .before .before .before .before .before .total-of in
     let h = d .before .before .before .before .before .write-streams-head in
-    let from = 22 + 2 * length (d .before .before .before .before .before .before .before .before .before .before .before .before .before .before .args .sizes .now) in
-    let e = same-len-mid from (from + t .result - from) (h .last .0) (d .put-streams .last .1 .1 .1 .1 .1 .1 .1 .0) (d .put-streams .kept .1 .1 .1 .1 .1 .1 .1 .0) in
-    (omega (arith, e, h .kept .0, p .1 .4, t .ensures .0), omega (arith, e, h .kept .0, p .1 .4, t .ensures .0))
+    let b = d .put-streams in
+    let from = 22 + 2 * length (s .args .sizes .now) in
+    let e = same-len-mid from (from + t .result - from) (h .last .0) (b .last .1 .1 .1 .1 .1 .1 .1 .0) (b .kept .1 .1 .1 .1 .1 .1 .1 .0) in
+    (omega (arith, e, h .kept .0, s .pre .1 .4, t .ensures .0), omega (arith, e, h .kept .0, s .pre .1 .4, t .ensures .0))
 
 seal-requires : tie.Need-seal-requires
 seal-requires c κs = search needs
 
 same-length : tie.Need-same-length
-same-length c = c .before .before .before .before .before .before .before .before .before .before .before .before .put-streams .kept .1 .1 .1 .1 .1 .0
+same-length c =
+    let d = c .before .before .before .before .before .before .before .before .before .before .before .before in
+    d .put-streams .kept .1 .1 .1 .1 .1 .0
 
 same-length-2 : tie.Need-same-length-2
 same-length-2 c = search needs
