@@ -45,7 +45,7 @@ returns-3 c =
       sym (t1 .before .is-default .ensures) ∙ t1 .if1 .left,
       sym (t2 .before .number16 .ensures .0),
       le-leb _ _ (t2 .if2 .left),
-      lt-leb _ _ (c .if3 .taken),
+      lt-leb (t2 .before .number16 .result) 8 (omega (arith, c .if3 .taken)),
     )
 
 add-all-tables-right : tie.Need-add-all-tables-right
@@ -64,7 +64,7 @@ returns-4 c =
       sym (t1 .before .is-default .ensures) ∙ t1 .if1 .left,
       sym (t2 .before .number16 .ensures .0),
       le-leb _ _ (t2 .if2 .left),
-      le-leb _ _ (t3 .if3 .left),
+      le-leb (t2 .before .number16 .result) 8 (omega (arith, t3 .if3 .left)),
       broken (c .before .all-tables-right .ensures) (c .if4 .taken),
     )
 
@@ -88,7 +88,7 @@ returns-5 c =
       sym (t1 .before .is-default .ensures) ∙ t1 .if1 .left,
       sym (t2 .before .number16 .ensures .0),
       le-leb _ _ (t2 .if2 .left),
-      le-leb _ _ (t3 .if3 .left),
+      le-leb (t2 .before .number16 .result) 8 (omega (arith, t3 .if3 .left)),
       kept (t4 .before .all-tables-right .ensures) (t4 .if4 .left),
       sym (c .before .after-tables .ensures .0),
     )

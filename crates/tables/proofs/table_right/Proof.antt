@@ -1,4 +1,5 @@
--- The tests and the calls are the definition's, in its order, and a table has as many structures as its first two bytes say.
+-- The tests and the calls are the definition's, in its order, and a table has as many structures as its first two bytes say. The bound is
+-- stated, so that another in the code is refused by a number.
 use mathlib.Core.Path.{sym}
 use native.Mathlib.Omega.{arith}
 use borrow.Author.Needs.{needs}
@@ -20,7 +21,7 @@ returns-2 : tie.Need-returns-2
 unfolding tableAt tableRight
 returns-2 c =
     let t1 = c .before in
-    rw (sym (t1 .before .number16 .ensures .0), length-structuresAt, le-leb _ _ (t1 .if1 .left), lt-leb _ _ (c .if2 .taken))
+    rw (sym (t1 .before .number16 .ensures .0), length-structuresAt, le-leb _ _ (t1 .if1 .left), lt-leb (t1 .before .number16 .result) 64 (omega (arith, c .if2 .taken)))
 
 add-structures-right : tie.Need-add-structures-right
 add-structures-right c = search needs
@@ -37,7 +38,7 @@ returns-3 c =
       sym (t1 .before .number16 .ensures .0),
       length-structuresAt,
       le-leb _ _ (t1 .if1 .left),
-      le-leb _ _ (t2 .if2 .left),
+      le-leb (t1 .before .number16 .result) 64 (omega (arith, t2 .if2 .left)),
       broken (c .before .structures-right .ensures) (c .if3 .taken),
     )
 
@@ -57,7 +58,7 @@ returns-4 c =
       sym (t1 .before .number16 .ensures .0),
       length-structuresAt,
       le-leb _ _ (t1 .if1 .left),
-      le-leb _ _ (t2 .if2 .left),
+      le-leb (t1 .before .number16 .result) 64 (omega (arith, t2 .if2 .left)),
       kept (t3 .before .structures-right .ensures) (t3 .if3 .left),
     )
     (c .is-prefix-free .ensures)
