@@ -120,7 +120,7 @@ mod tests {
         let mut rng = Rng::new(3);
         let mut room = Room::default();
         let (mut accepted, mut refused) = (0, [0; 15]);
-        for turn in 0..1500 {
+        for turn in 0..600 {
             let record = match (turn % 15) as u8 {
                 0 => noise(&mut rng),
                 row => aimed(&mut rng, row),

@@ -2,11 +2,14 @@
 
 mod common;
 
+use std::fs;
 use std::io::Write;
+use std::os::unix::fs::symlink;
 use std::path::Path;
 use std::process::{Command, Stdio};
 
-use common::{run, Ran};
+use common::folder::Folder;
+use common::{run, run_in, samples, Ran};
 
 /// The commands, as the help lists them.
 fn commands() -> Vec<String> {
@@ -132,6 +135,30 @@ fn the_manual_has_every_command() {
         1
     );
     assert_eq!(ran.out.matches("OUT was written").count(), 2);
+}
+
+/// Each example of README.md is what the tool shows, and each command stands there.
+#[test]
+fn the_readme_is_true() {
+    let top = Path::new(env!("CARGO_MANIFEST_DIR")).join("../..");
+    let readme = fs::read_to_string(top.join("README.md")).unwrap();
+    let folder = Folder::new("readme");
+    symlink(samples(), folder.path("samples")).unwrap();
+    let mut examples = 0;
+    for part in readme.split("`./tigmavresh ").skip(1) {
+        let Some((words, text)) = part.split_once("` shows:\n\n```text\n") else {
+            continue;
+        };
+        let words: Vec<&str> = words.split(' ').collect();
+        let text = text.split_once("```").unwrap().0;
+        assert_eq!(run_in(&folder, &words).out, text, "{words:?}");
+        examples += 1;
+    }
+    assert!(examples >= 5, "{examples}");
+    for command in commands() {
+        let line = format!("\n./tigmavresh {command} ");
+        assert!(readme.contains(&line), "{command}");
+    }
 }
 
 /// The manual page is well formed, and is shown as text.
