@@ -172,6 +172,8 @@ pub enum Command {
     ///
     /// A rule is certain where those before it are kept. Of a record that breaks an
     /// earlier one, the answer is a hint: bytes may stand elsewhere than it looks.
+    /// Of a record that is too long the first rule alone is asked: not all of it is
+    /// read.
     #[command(verbatim_doc_comment, after_help = STATUS)]
     Report {
         /// The record to report on
