@@ -1,5 +1,5 @@
 -- What a form holds, and what is read of tables that are ready: what the proofs of this crate and of those above it cite. Assumes nothing.
-use Prim.Native.Nat.{ℕ, zero, suc, _-_, _*_, _^_, _≤_, _<_}
+use Prim.Native.Nat.{ℕ, zero, suc, _*_, _^_, _≤_, _<_}
 use mathlib.Core.Path.{_≡_, refl, ap}
 use mathlib.Core.Bool.{Bool, true, false, cond}
 use mathlib.Core.List.{List, []}
@@ -17,7 +17,6 @@ use Rattle.tables.specs.declared.Structure.{Structure}
 use Rattle.tables.specs.Structures.{remainderOf, modeRight, structureRight}
 use Rattle.tables.proofs.Laws.{Fine, fine, RightTable, every-at, right-at}
 use Rattle.tables.specs.InnerStructures.{noStructure}
-pub use Rattle.tables.proofs.Laws.{length-tables}
 use Rattle.compiled.specs.declared.Form.{Form}
 use Rattle.compiled.specs.InnerForm.{lowest, beyond, formOf, formAt, Ready, Holding}
 

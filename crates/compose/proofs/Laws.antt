@@ -10,10 +10,9 @@ use lib.ListN.{length, getD, drop}
 use lib.Seq.{drop-cons, drop-length}
 use lib.IntN.{ℤ}
 use Rattle.wire.specs.Rules.{allIn}
-use Rattle.wire.proofs.Laws.{all-at}
+use Rattle.wire.proofs.Laws.{all-at, kept-first}
 use Rattle.header.specs.Header.{section1Right}
 use Rattle.encode.specs.Encoding.{tablesGiven, tablesGivenRight, workRight}
-use Rattle.encode.proofs.Laws.{passed}
 use Rattle.compose.specs.declared.Head.{Head}
 use Rattle.compose.specs.Writing.{Job, jobOf, total, longest, leadAsked, jobRight, jobRefusal}
 use Rattle.compose.specs.InnerJob.{Sound, Listed}
@@ -138,10 +137,10 @@ module _ (j : Job) (work : ℕ) (z : jobRefusal j work ≡ 0) where
   unfolding jobRefusal workRight
   passes =
       let enough = leb (longest (j .counts) * length (tablesGiven (j .section2))) work in
-      let a = passed (jobRight j) 16 _ z in
-      let b = passed (section1Right 0 (j .section1) 0) 5 _ (a .1) in
-      let c = passed (tablesGivenRight (j .section2)) 6 _ (b .1) in
-      let d = passed enough 10 0 (c .1) in
+      let a = kept-first (jobRight j) 16 _ z in
+      let b = kept-first (section1Right 0 (j .section1) 0) 5 _ (a .1) in
+      let c = kept-first (tablesGivenRight (j .section2)) 6 _ (b .1) in
+      let d = kept-first enough 10 0 (c .1) in
       (a .0, c .0, leb-true (longest (j .counts) * length (tablesGiven (j .section2))) work (d .0))
 
   pub job-sound : Sound (j .section2) (j .counts) (j .samples) work × (length (j .counts) ≤ 32) × (j .order ≤ 2)

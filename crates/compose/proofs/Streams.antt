@@ -15,7 +15,7 @@ use Rattle.packing.specs.Packing.{bytesFor, packed}
 use Rattle.packing.proofs.Laws.{length-packed}
 use Rattle.samples.specs.Differences.{differences}
 use Rattle.shortest.specs.Shortest.{Shortest}
-use Rattle.shortest.proofs.Laws.{unlike}
+use Rattle.wire.proofs.Laws.{unlike}
 use Rattle.shortest.proofs.Bridge.{unique}
 use Rattle.layout.specs.Layout.{joined}
 use Rattle.encode.specs.Encoding.{tablesGiven}

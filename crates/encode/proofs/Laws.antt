@@ -1,34 +1,33 @@
 -- The stream without Section 2, what the bits found say, and the refusals in their order. Assumes nothing.
-use Prim.Native.Nat.{ℕ, zero, suc, _+_, _-_, _*_, _/_, _%_, _≤_, _<_, min}
+use Prim.Native.Nat.{ℕ, zero, suc, _+_, _*_, _/_, _%_, _≤_, _<_, min}
 use mathlib.Core.Path.{_≡_, refl, sym, ap, _∙_, subst}
-use mathlib.Core.Bool.{Bool, true, false, _&&_, cond, and-eq-true-iff}
+use mathlib.Core.Bool.{true, false, _&&_, cond, and-eq-true-iff}
 use mathlib.Core.List.{List, [], _∷_, _++_, append-assoc}
 use mathlib.Core.Logic.{_⊎_, inl, inr, ⊎-elim}
 use mathlib.Core.Option.{Option, none, some}
 use native.Mathlib.Decide.{decLt}
 use native.Mathlib.Omega.{arith}
 use borrow.Author.Count.{below-more}
-use borrow.Author.Tests.{ltb-true, ltb-false, le-leb, lt-leb, leb-true, eq-eqb, ne-eqb}
-use lib.Dec.{ltb, leb, eqb}
-use lib.IntN.{ℤ, pos, negsuc}
+use borrow.Author.Tests.{le-leb, lt-leb, leb-true, eq-eqb, ne-eqb}
+use lib.Dec.{leb, eqb}
+use lib.IntN.{ℤ, pos}
 use lib.ListN.{length, getD, take, drop, replicate}
 use lib.Seq.{length-take-le, take-all}
 use lib.Signed.{mag}
 use Rattle.wire.specs.Numbers.{bytesOf}
-use Rattle.wire.proofs.Laws.{put-next}
+use Rattle.wire.proofs.Laws.{put-next, kept-first, unlike}
 use Rattle.bits.specs.InnerRaised.{lower}
 use Rattle.bits.proofs.Laws.{length-bitsIn}
+use Rattle.bits.proofs.Raised.{mag-inside, mag-outside}
 use Rattle.tables.specs.declared.Structure.{Structure}
 use Rattle.tables.specs.Section2.{isDefault, tableCount, tablesIn, section2Right}
-use Rattle.tables.proofs.Laws.{section2-right}
+use Rattle.tables.proofs.Laws.{length-tables, section2-right}
 use Rattle.compiled.specs.InnerForm.{Ready, Holding}
-use Rattle.compiled.proofs.Laws.{length-tables}
 use Rattle.samples.specs.Differences.{differences}
 use Rattle.packing.specs.Packing.{packed, bytesFor}
 use Rattle.packing.proofs.Laws.{Bytes, packed-whole}
 use Rattle.shortest.specs.Shortest.{Shortest}
 use Rattle.shortest.specs.InnerRule.{twos, plainBytes, plainBits}
-use Rattle.shortest.proofs.Laws.{unlike}
 use Rattle.shortest.proofs.Bridge.{unique, exact-shortest, exact-long, exact-nothing}
 use Rattle.shortest.proofs.Existence.{shortest-there}
 use Rattle.shortest.proofs.Forms.{twos-lower}
@@ -40,31 +39,12 @@ use Rattle.encode.specs.InnerEncode.{bitsFound, Sized, Laid, Written, cl
 
 -- ---- without Section 2
 
--- a value of 16 bits, and one outside them
-mag-inside : (x : ℕ) → 98304 ≤ x → x < 163840 → mag (lower 131072 x) < 32768
-unfolding lower
-mag-inside x h l = go (ltb x 131072) refl
-  where
-    go : (b : Bool) → ltb x 131072 ≡ b → mag (cond b (negsuc (131072 - suc x)) (pos (x - 131072))) < 32768
-    go true e = omega (arith, ltb-true x 131072 e)
-    go false e = omega (arith, ltb-false x 131072 e)
-
-mag-outside : (x : ℕ) → (x < 98304) ⊎ (163840 ≤ x) → 32768 ≤ mag (lower 131072 x)
-unfolding lower
-mag-outside x o = go (ltb x 131072) refl o
-  where
-    go : (b : Bool) → ltb x 131072 ≡ b → (x < 98304) ⊎ (163840 ≤ x) → 32768 ≤ mag (cond b (negsuc (131072 - suc x)) (pos (x - 131072)))
-    go true e (inl l) = omega (arith, ltb-true x 131072 e)
-    go true e (inr l) = absurd (omega (arith, ltb-true x 131072 e))
-    go false e (inl l) = absurd (omega (arith, ltb-false x 131072 e))
-    go false e (inr l) = omega (arith, ltb-false x 131072 e)
-
 -- the first i values have 16 bits
 abbrev pub Inside : List ℤ → ℕ → Type 0
 Inside vs i = (k : ℕ) → k < i → mag (getD vs k (pos 0)) < 32768
 
 pub inside-more : (vs : List ℤ) (i x : ℕ) → lower 131072 x ≡ getD vs i (pos 0) → 98304 ≤ x → x < 163840 → Inside vs i → Inside vs (i + 1)
-inside-more vs i x e h l before = below-more (λ (k : ℕ). mag (getD vs k (pos 0)) < 32768) i before (rw e at (mag-inside x h l))
+inside-more vs i x e h l before = below-more (λ (k : ℕ). mag (getD vs k (pos 0)) < 32768) i before (rw e at (mag-inside 131072 x 32768 (omega arith) (omega arith)))
 
 length-plain : (vs : List ℤ) → length (plainBits vs) ≡ length vs * 16
 unfolding plainBits
@@ -75,7 +55,9 @@ plain-sized vs r h e = (some (plainBits vs), plain-shortest vs h, e ∙ ap (λ (
 
 pub plain-unsized : (vs : List ℤ) (i x : ℕ) → i < length vs → lower 131072 x ≡ getD vs i (pos 0)
     → (x < 98304) ⊎ (163840 ≤ x) → Sized [] vs 524282
-plain-unsized vs i x h e o = (none, plain-none vs i h (rw e at (mag-outside x o)), refl)
+plain-unsized vs i x h e o =
+    let outside : (x + 32768 < 131072) ⊎ (131072 + 32768 ≤ x) = ⊎-elim (λ l. inl (omega arith)) (λ l. inr (omega arith)) o in
+    (none, plain-none vs i h (rw e at (mag-outside 131072 x 32768 outside)), refl)
 
 -- the bytes of one value more
 pub plain-put : (vs : List ℤ) (out₀ out : List ℕ) (i x n : ℕ) → i < length vs → lower 131072 x ≡ getD vs i (pos 0) → n ≡ x % 65536
@@ -189,19 +171,14 @@ module _ (bits room : ℕ) where
     found-fits g (some bs) e =
         rw (le-leb (bytesFor (length bs)) 65535 (omega arith), le-leb (bytesFor (length bs)) room (omega arith))
 
--- a rule with others behind it, where nothing is refused
-pub passed : (kept : Bool) (number later : ℕ) → cond kept later (suc number) ≡ 0 → (kept ≡ true) × (later ≡ 0)
-passed true number later e = (refl, e)
-passed false number later e = absurd (omega arith)
-
 -- no refusal: the stream has room
 pub fits-found : (bits room : ℕ) (found : Option (List ℕ)) → bits ≡ bitsFound found → foundRefusal room found ≡ 0
     → (bits < 524281) × (bytesFor bits ≤ room)
 unfolding foundRefusal
 fits-found bits room none e z = absurd (omega arith)
 fits-found bits room (some bs) e z =
-    let p = passed (leb (bytesFor (length bs)) 65535) 15 _ z in
-    let q = passed (leb (bytesFor (length bs)) room) 10 0 (p .1) in
+    let p = kept-first (leb (bytesFor (length bs)) 65535) 15 _ z in
+    let q = kept-first (leb (bytesFor (length bs)) room) 10 0 (p .1) in
     let a = leb-true (bytesFor (length bs)) 65535 (p .0) in
     let b = leb-true (bytesFor (length bs)) room (q .0) in
     (omega arith, omega arith)
@@ -316,9 +293,9 @@ pub asked-none : (s2 : List ℕ) (count order work : ℕ) → askedRefusal s2 co
 unfolding askedRefusal workRight
 asked-none s2 count order work z =
     let enough = leb (count * length (tablesGiven s2)) work in
-    let p = passed (askedRight count order) 16 _ z in
-    let q = passed (tablesGivenRight s2) 6 _ (p .1) in
-    let w = passed enough 10 0 (q .1) in
+    let p = kept-first (askedRight count order) 16 _ z in
+    let q = kept-first (tablesGivenRight s2) 6 _ (p .1) in
+    let w = kept-first enough 10 0 (q .1) in
     (asked-most count order (p .0), q .0, leb-true (count * length (tablesGiven s2)) work (w .0))
 
 -- ---- what encoding answers

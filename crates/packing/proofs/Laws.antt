@@ -8,7 +8,7 @@ use lib.ListN.{length, getD, take, drop, replicate, length-append, length-take, 
 use lib.Pow.{high, low, field, shr-shr, mod-mod-pow}
 use lib.Seq.{take-append-add}
 use Rattle.bits.specs.Bits.{highFirst, bitsIn, numberAfter, numberOf}
-use Rattle.bits.proofs.Laws.{Small, small-take, small-drop, small-highFirst, length-highFirst, number-append, number-small, number-one, number-high}
+use Rattle.bits.proofs.Laws.{Small, small-take, small-drop, length-highFirst, number-append, number-high, own-bits}
 use Rattle.bits.proofs.Windows.{zeros-behind}
 use Rattle.packing.specs.Packing.{packedIn, packed, bytesFor}
 
@@ -37,13 +37,6 @@ high-behind p n a w h =
     let x = a * 2 ^ n + w in
     let lower : highFirst n x ≡ highFirst n w = sym (high-low n n x (omega arith)) ∙ ap (highFirst n) (low a n h) in
     high-split p n x ∙ ap₂ (λ (y : ℕ) (l : List ℕ). highFirst p y ++ l) (high a n h) lower
-
--- bits are the bits of the number that they are
-high-number : (l : List ℕ) → Small l → highFirst (length l) (numberOf l) ≡ l
-high-number l h =
-    let n = length l in
-    let x = numberOf l in
-    number-one (highFirst n x) l (small-highFirst n x) h (length-highFirst n x) (number-high n x (number-small l h))
 
 -- each element of a list is a byte
 abbrev pub Bytes : List ℕ → Type 0
@@ -96,24 +89,13 @@ pub length-packed : (bs : List ℕ) → length (packed bs) ≡ bytesFor (length 
 unfolding packed
 length-packed bs = length-in (bytesFor (length bs)) bs
 
-bytes-in : (n : ℕ) (bs : List ℕ) → Small bs → Bytes (packedIn n bs)
-unfolding packedIn
-bytes-in zero bs h i = omega arith
-bytes-in (suc n) bs h zero = rw (length-first bs) at (number-small (take 8 (bs ++ replicate 8 0)) (small-first bs h))
-bytes-in (suc n) bs h (suc i) = bytes-in n (drop 8 bs) (small-drop 8 bs h) i
-
--- what bits are packed into is bytes
-pub packed-bytes : (bs : List ℕ) → Small bs → Bytes (packed bs)
-unfolding packed
-packed-bytes bs h = bytes-in (bytesFor (length bs)) bs h
-
 read-in : (n : ℕ) (bs : List ℕ) → Small bs → length bs ≤ 8 * n → bitsIn (packedIn n bs) ≡ bs ++ replicate (8 * n - length bs) 0
 unfolding packedIn bitsIn
 read-in zero [] h g = refl
 read-in zero (b ∷ bs) h g = absurd (omega arith)
 read-in (suc n) bs h g =
     let first = take 8 (bs ++ replicate 8 0) in
-    let own : highFirst 8 (numberOf first) ≡ first = rw (length-first bs) at (high-number first (small-first bs h)) in
+    let own = own-bits first 8 (small-first bs h) (length-first bs) in
     let e : 8 * suc n ≡ 8 + 8 * n = omega arith in
     let rest = read-in n (drop 8 bs) (small-drop 8 bs h) (simp length-drop (omega arith)) in
     rw (own, rest, e) (fill 8 (8 * n) 8 bs (omega arith) (omega arith))

@@ -21,6 +21,7 @@ use Rattle.tables.proofs.Laws.{fine}
 use Rattle.compiled.specs.declared.Form.{Form}
 use Rattle.compiled.specs.InnerForm.{formOf, Ready}
 use Rattle.compiled.proofs.Laws.{FineForm, held-count, held-form, held-right, held-fine}
+use Rattle.reading.proofs.Laws.{table-at}
 use Rattle.paths.specs.InnerPaths.{gives, leads, There, Reads, join, MetBy, Met, NotAfter, Nearest}
 use Rattle.paths.proofs.Layer.{met-switch, none-more, nearest-first, nearest-more, nearest-keep, nearest-take}
 use Rattle.shortest.specs.InnerRule.{kindOf, wordOf, structureOf, rule}
@@ -30,11 +31,6 @@ use Rattle.shortest.proofs.Bridge.{sound}
 use Rattle.search.specs.InnerSearch.{cap, countOf, formIn, bitsOf, rankIn, Place, at, leapOf, Served, IsNearest, Known, Valued, ValuedTo, LeastOf, Shut, AllMet, Smaller, Picked, PickedFrom}
 
 -- ---- what the numbers say of a table's rule
-
-table-at : (tables : List (List Structure)) (t : ℕ) → 1 ≤ t → tableOf tables t ≡ getD tables (t - 1) []
-unfolding tableOf
-table-at tables zero h = absurd (omega arith)
-table-at tables (suc k) h = let e : suc k - 1 ≡ k = omega arith in rw e
 
 module _ {tables : List (List Structure)} {tab : List ℕ} (ready : Ready tables tab) (t : ℕ) (h : (1 ≤ t) × (t ≤ 8)) where
   pub counted : countOf tab t ≡ length (tableOf tables t)

@@ -10,7 +10,7 @@ use lib.Dec.{ltb, eqb}
 use lib.IntN.{ℤ, pos, negsuc}
 use lib.Pow.{pow-pos}
 use lib.Signed.{mag}
-pub use Rattle.wire.proofs.Laws.{unlike}
+use Rattle.wire.proofs.Laws.{unlike}
 use Rattle.wire.specs.Rules.{every}
 use Rattle.bits.specs.Bits.{signed}
 use Rattle.bits.proofs.Laws.{Small}

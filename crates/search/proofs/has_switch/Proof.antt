@@ -3,7 +3,7 @@ use Prim.Native.Nat.{ℕ, _+_, _-_, _≤_, _<_}
 use mathlib.Core.Path.{_≡_}
 use native.Mathlib.Omega.{arith}
 use borrow.Author.Count.{below-more}
-use Rattle.shortest.proofs.Laws.{unlike}
+use Rattle.wire.proofs.Laws.{unlike}
 use Rattle.search.specs.InnerSearch.{countOf, formIn}
 use Rattle.search.proofs.has_switch.Statement.{statement}
 use Rattle.search.proofs.has_switch.Tie as tie

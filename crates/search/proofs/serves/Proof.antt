@@ -2,7 +2,7 @@
 use mathlib.Core.Logic.{inl, inr}
 use native.Mathlib.Omega.{arith}
 use borrow.Author.Tests.{ltb-true, ltb-false}
-use Rattle.shortest.proofs.Laws.{unlike}
+use Rattle.wire.proofs.Laws.{unlike}
 use Rattle.shortest.proofs.Forms.{form-leads, form-gives, form-dead}
 use Rattle.search.proofs.serves.Statement.{statement}
 use Rattle.search.proofs.serves.Tie as tie

@@ -4,7 +4,7 @@ use mathlib.Core.Path.{_≡_, ap, sym, _∙_}
 use native.Mathlib.Omega.{arith}
 use borrow.Author.Count.{below-more}
 use Rattle.compiled.specs.declared.Form.{Form}
-use Rattle.shortest.proofs.Laws.{unlike}
+use Rattle.wire.proofs.Laws.{unlike}
 use Rattle.search.specs.InnerSearch.{countOf, formIn}
 use Rattle.search.proofs.switches.Statement.{statement}
 use Rattle.search.proofs.switches.Tie as tie
