@@ -78,7 +78,7 @@ given c =
     subst (Stepped bits) (c .before .x .given .1) (c .before .before .before .next-sample .ensures .1)
 
 lowered-requires : tie.Need-lowered-requires Inv-loop μ-loop
-lowered-requires c κs = given c .0
+lowered-requires c κs = omega (arith, given c .0)
 
 mul-t16 : tie.Need-mul-t16 Inv-loop μ-loop
 mul-t16 c = omega arith
