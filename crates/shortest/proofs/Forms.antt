@@ -1,9 +1,9 @@
 -- What a structure's form, on which the engines run, says of its code: what it does for a value that is held with 131,072 added, its
 -- word, and which of two words of a table is the smaller. Assumes nothing.
 use Prim.Native.Nat.{ℕ, zero, suc, _+_, _-_, _*_, _/_, _%_, _^_, _≤_, _<_}
-use mathlib.Core.Path.{_≡_, refl, sym, ap, ap₂, _∙_}
+use mathlib.Core.Path.{_≡_, refl, sym, ap, _∙_}
 use mathlib.Core.Bool.{Bool, true, false, cond, not, _&&_}
-use mathlib.Core.List.{List, [], _∷_, _++_}
+use mathlib.Core.List.{List, [], _∷_}
 use mathlib.Core.Logic.{_⊎_, inl, inr, ⊎-elim}
 use native.Mathlib.Nat.{eq-or-lt-of-le, mod-lt, mod-eq-of-lt, lt-of-mul-lt-mul-right, mul-add-mod-self-right}
 use native.Mathlib.Nat.{mul-le-mul-right, add-mul, mul-assoc, zero-add}
@@ -17,10 +17,10 @@ use lib.Pow.{pow-pos, pow-mono, pow-add, split, shl-lt}
 use lib.Signed.{mag}
 use Rattle.wire.proofs.Laws.{unlike}
 use Rattle.wire.specs.Rules.{every}
-use Rattle.bits.specs.Bits.{highFirst, numberAfter, numberOf, signed, begins}
+use Rattle.bits.specs.Bits.{numberAfter, numberOf, signed, begins}
 use Rattle.bits.specs.InnerRaised.{lower}
 use Rattle.bits.specs.InnerWindow.{turned}
-use Rattle.bits.proofs.Laws.{Small, length-lowFirst, small-lowFirst, number-after, number-small, own-bits}
+use Rattle.bits.proofs.Laws.{Small, length-lowFirst, small-lowFirst, number-after, number-small}
 use Rattle.bits.proofs.Raised.{lower-one, mag-inside, mag-outside}
 use Rattle.tables.specs.declared.Structure.{Structure}
 use Rattle.tables.specs.Structures.{prefixOf, remainderOf, structureRight, apart}
@@ -135,15 +135,7 @@ module _ (n : ℕ) (c : Structure) (right : structureRight n c ≡ true) (small 
       kind-dead c (lower 131072 x) (v .0)
       (serves-outside (remainderOf c) (c .base) x (omega (arith, ok .rest)) small (rw (v .1, v .2) at o))
 
-  -- its code word, and how long that is
-  pub form-word : wordOf c (lower 131072 x) ≡ highFirst (f .prefix) (f .word) ++ highFirst (f .remainder) (x % 2 ^ f .remainder)
-  unfolding formOf wordOf turned
-  form-word =
-      let ok = fine n c right in
-      let own = own-bits (prefixOf c) (c .prefix) (small-lowFirst (c .prefix) (c .code)) (length-lowFirst (c .prefix) (c .code)) in
-      rw (← form) (ap₂ (λ (p r : List ℕ). p ++ r) (sym own)
-      (ap (highFirst (remainderOf c)) (twos-lower (remainderOf c) x (omega (arith, ok .rest)))))
-
+  -- how long its code word is
   pub form-length : length (wordOf c (lower 131072 x)) ≡ f .prefix + f .remainder
   unfolding formOf
   form-length = rw (← form) (length-word c (lower 131072 x))
