@@ -13,19 +13,20 @@ fn wide(x: u8) -> u64
     x as u64
 }
 
-// The eight bytes from i on, the first highest. One load and one swap of bytes is made of this sum.
+// The eight bytes from i on, the first highest. The compiler makes one load and one swap of bytes of this sum, since it adds the last
+// byte first.
 fn word(s: &[u8], i: usize) -> u64
     requires { ⌜ i + 8 ≤ length (now s) ⌝ }
     ensures { λ r. ⌜ r ≡ numberOf (take 64 (drop (i * 8) (bitsIn (now (s .entry))))) ⌝ }
 {
-    ((((((wide(s[i]) * 256 + wide(s[i + 1])) * 256 + wide(s[i + 2])) * 256 + wide(s[i + 3])) * 256
-        + wide(s[i + 4]))
-        * 256
-        + wide(s[i + 5]))
-        * 256
-        + wide(s[i + 6]))
-        * 256
-        + wide(s[i + 7])
+    wide(s[i + 7])
+        + wide(s[i + 6]) * 256
+        + wide(s[i + 5]) * 65536
+        + wide(s[i + 4]) * 16777216
+        + wide(s[i + 3]) * 4294967296
+        + wide(s[i + 2]) * 1099511627776
+        + wide(s[i + 1]) * 281474976710656
+        + wide(s[i]) * 72057594037927936
 }
 
 // The same near the end of the bytes, zeros standing for those that are not there.

@@ -14,8 +14,8 @@ use Rattle.bits.specs.Bits.{lowFirst}
 use Rattle.bits.specs.InnerWindow.{turned}
 use Rattle.bits.proofs.Laws.{length-lowFirst, small-lowFirst, number-small}
 use Rattle.tables.specs.declared.Structure.{Structure}
-use Rattle.tables.specs.Structures.{remainderOf, modeRight, structureRight}
-use Rattle.tables.proofs.Laws.{Fine, fine, RightTable, every-at, right-at}
+use Rattle.tables.specs.Structures.{remainderOf, modeRight, structureRight, apart}
+use Rattle.tables.proofs.Laws.{Fine, fine, RightTable, every-at, free-at, right-at}
 use Rattle.tables.specs.InnerStructures.{noStructure}
 use Rattle.compiled.specs.declared.Form.{Form}
 use Rattle.compiled.specs.InnerForm.{lowest, beyond, formOf, formAt, Ready, Holding}
@@ -122,6 +122,12 @@ module _ {tables : List (List Structure)} {tab : List ℕ} (held : Ready tables 
   -- it has at most 64 structures
   pub held-count : getD tab (t * 385) 0 ≤ 64
   held-count = ⊎-elim (λ r. omega (arith, counted)) (λ e. omega (arith, counted, ap length e)) held-table
+
+  -- no two of them match the same bits
+  pub held-apart : (j k : ℕ) → j < k → k < length (getD tables t [])
+      → apart (getD (getD tables t []) j noStructure) (getD (getD tables t []) k noStructure) ≡ true
+  held-apart j k l g =
+      ⊎-elim (λ r. free-at (getD tables t []) (r .free) j k l g) (λ e. absurd (omega (arith, ap length e))) held-table
 
   -- the form at a place is that of the structure there
   pub held-form : (k : ℕ) → k < getD tab (t * 385) 0 → formAt tab t k ≡ formOf (getD (getD tables t []) k noStructure)

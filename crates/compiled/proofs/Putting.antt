@@ -20,7 +20,8 @@ use Rattle.tables.specs.Section2.{tableAt, afterTable, tablesFrom, tableRight}
 use Rattle.tables.proofs.Laws.{every-at, right-at, tables-cons}
 use Rattle.tables.specs.InnerStructures.{noStructure}
 use Rattle.compiled.specs.declared.Form.{Form}
-use Rattle.compiled.specs.InnerForm.{formOf, formAt, numbersOf, Says, Beside, TwoBytes, Ready}
+use Rattle.compiled.specs.InnerForm.{formOf, formAt, numbersOf, Says, Beside, TwoBytes, SameTables, Ready}
+use Rattle.compiled.proofs.Laws.{held-count}
 
 -- ---- the numbers w are put into a list from place a on
 
@@ -49,7 +50,7 @@ module _ (a : ℕ) (w l : List ℕ) (fits : a + length w ≤ length l) where
 
 -- ---- a form is put at place k of table t
 
-module _ (tab after : List ℕ) (t k : ℕ) (f : Form) (room : length tab ≡ 3080) (ht : t < 8) (hk : k < 64)
+module _ (tab after : List ℕ) (t k : ℕ) (f : Form) (room : length tab ≡ 5128) (ht : t < 8) (hk : k < 64)
     (e : after ≡ take (t * 385 + 1 + k * 6) tab ++ (numbersOf f ++ drop (t * 385 + 7 + k * 6) tab)) where
   -- it is the form there
   form-put : formAt after t k ≡ f
@@ -93,13 +94,13 @@ form-same x y t k same =
 
 -- table t has its count and the first k of the structures cs, and nothing beside it changed
 pub record Upto (cs : List Structure) (before tab : List ℕ) (t k : ℕ) : Type 0 where
-  pub room : length tab ≡ 3080
+  pub room : length tab ≡ 5128
   pub count : getD tab (t * 385) 0 ≡ length cs
   pub form : (j : ℕ) → j < k → formAt tab t j ≡ formOf (getD cs j noStructure)
   pub beside : Beside before tab t
 
 -- the count is put
-pub upto-start : (cs : List Structure) (l : List ℕ) (t n : ℕ) → length l ≡ 3080 → t < 8 → n ≡ length cs
+pub upto-start : (cs : List Structure) (l : List ℕ) (t n : ℕ) → length l ≡ 5128 → t < 8 → n ≡ length cs
     → Upto cs (set l (t * 385) n) (set l (t * 385) n) t 0
 upto-start cs l t n room h e = record {
   room = length-set l (t * 385) n ∙ room;
@@ -149,7 +150,7 @@ says-none : (tab : List ℕ) (t : ℕ) → getD tab (t * 385) 0 ≡ 0 → Says [
 says-none tab t e = record { count = e; form = λ k h. absurd (omega arith) }
 
 -- from n on the tables below t have no structure, and one more gets none
-pub none-turn : (tab : List ℕ) (n t : ℕ) → length tab ≡ 3080 → t < 8 → ((u : ℕ) → u < t → n ≤ u → Says [] tab u)
+pub none-turn : (tab : List ℕ) (n t : ℕ) → length tab ≡ 5128 → t < 8 → ((u : ℕ) → u < t → n ≤ u → Says [] tab u)
     → (u : ℕ) → u < t + 1 → n ≤ u → Says [] (set tab (t * 385) 0) u
 none-turn tab n t room h before =
     below-more (λ (u : ℕ). n ≤ u → Says [] (set tab (t * 385) 0) u) t
@@ -215,7 +216,7 @@ module _ (s : List ℕ) (bytes : (i : ℕ) → getD s i 0 < 256) where
 
 -- n tables are there, and behind them there is none
 pub ready : (tables : List (List Structure)) (n : ℕ) (tab after : List ℕ) → length tables ≡ n → 1 ≤ n → n ≤ 8
-    → every (tableRight n) tables ≡ true → TwoBytes tables → length after ≡ 3080
+    → every (tableRight n) tables ≡ true → TwoBytes tables → length after ≡ 5128
     → ((t : ℕ) → t < n → Says (getD tables t []) tab t)
     → ((t : ℕ) → n ≤ t → t < 8 → Says [] after t) × ((i : ℕ) → i < n * 385 → getD after i 0 ≡ getD tab i 0)
     → Ready tables after
@@ -233,3 +234,18 @@ ready tables n tab after e some most right two room says none = record {
         says-same (getD tables t []) tab after t (right-at n tables right t (omega arith) .most) (says t l)
         (λ i p q. none .1 i (omega arith))
     go t h (no l) = rw (List·getD-eq-default tables [] {n = t} (omega arith)) (none .0 t (omega arith) h)
+
+-- tables that are ready stay so, whatever is put behind their numbers
+pub ready-same : (tables : List (List Structure)) (tab after : List ℕ) → length after ≡ 5128 → SameTables tab after
+    → Ready tables tab → Ready tables after
+ready-same tables tab after room same held = record {
+  room = room;
+  some = held .some;
+  most = held .most;
+  right = held .right;
+  twoBytes = held .twoBytes;
+  says = λ t h. says-same (getD tables t []) tab after t (few t h) (held .says t h) (λ i p q. same i (omega arith));
+}
+  where
+    few : (t : ℕ) → t < 8 → length (getD tables t []) ≤ 64
+    few t h = omega (arith, held-count held t h, held .says t h .count)

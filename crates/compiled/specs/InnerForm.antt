@@ -1,5 +1,6 @@
 -- The tables as the engines hold them: 385 numbers a table, how many structures and then six numbers for each of at most 64. Reading
--- and searching both run on this form, which is made once for a lead. No public contract rests on this.
+-- and searching both run on this form, which is made once for a lead. Behind the eight tables there are 256 guesses a table, of which
+-- nothing is said. No public contract rests on this.
 use Prim.Native.Nat.{ℕ, zero, suc, _+_, _-_, _*_, _%_, _^_, _≤_, _<_}
 use mathlib.Core.Path.{_≡_}
 use mathlib.Core.Bool.{true, cond}
@@ -60,13 +61,17 @@ pub record Says (cs : List Structure) (tab : List ℕ) (t : ℕ) : Type 0 where
 abbrev pub Beside : List ℕ → List ℕ → ℕ → Type 0
 Beside before after t = (i : ℕ) → (i < t * 385) ⊎ (t * 385 + 385 ≤ i) → getD after i 0 ≡ getD before i 0
 
+-- the numbers of all tables are as they were, whatever the guesses behind them are
+abbrev pub SameTables : List ℕ → List ℕ → Type 0
+SameTables before after = (i : ℕ) → i < 3080 → getD after i 0 ≡ getD before i 0
+
 -- the base values of tables have two bytes, as those of Section 2's data have
 abbrev pub TwoBytes : List (List Structure) → Type 0
 TwoBytes tables = (t k : ℕ) → getD (getD tables t []) k noStructure .base < 65536
 
 -- tables that were judged to be right, and the numbers that say them; a table that is not there has no structure
 pub record Ready (tables : List (List Structure)) (tab : List ℕ) : Type 0 where
-  pub room : length tab ≡ 3080
+  pub room : length tab ≡ 5128
   pub some : 1 ≤ length tables
   pub most : length tables ≤ 8
   pub right : every (tableRight (length tables)) tables ≡ true

@@ -1,5 +1,6 @@
 // The code tables taken apart once for a lead, into the one form that reading and searching run on: 385 numbers a table (how many
-// structures, then six numbers for each), so that matching a code is a shift and a comparison.
+// structures, then six numbers for each), so that matching a code is a shift and a comparison. Behind the eight tables stand 256 numbers
+// a table: for each first eight bits of a stream, the place of the structure to try first.
 ghost use mathlib.Core.Path.{_≡_};
 ghost use mathlib.Core.Bool.{true};
 ghost use mathlib.Core.List.{[], _++_};
@@ -9,7 +10,7 @@ ghost use Rattle.wire.specs.Rules.{every};
 ghost use Rattle.tables.specs.Structures.{structureRight, structuresAt};
 ghost use Rattle.tables.specs.Default.{defaultTable};
 ghost use Rattle.tables.specs.Section2.{section2Right, tablesIn, tablesFrom, tableRight};
-ghost use Rattle.compiled.specs.InnerForm.{lowest, beyond, formOf, formAt, numbersOf, Says, Beside, Ready};
+ghost use Rattle.compiled.specs.InnerForm.{lowest, beyond, formOf, formAt, numbersOf, Says, Beside, SameTables, Ready};
 use tables::Structure;
 
 // A structure as the engines hold it.
@@ -75,7 +76,7 @@ fn form_of(c: Structure) -> Form
 
 // The form at place k of table t.
 pub fn form_at(tab: &[u32], t: usize, k: usize) -> Form
-    requires { ⌜ (length (now tab) ≡ 3080) × (t < 8) × (k < 64) ⌝ }
+    requires { ⌜ (length (now tab) ≡ 5128) × (t < 8) × (k < 64) ⌝ }
     ensures { λ r. ⌜ r ≡ formAt (now (tab .entry)) t k ⌝ }
 {
     let o = t * 385 + k * 6;
@@ -91,7 +92,7 @@ pub fn form_at(tab: &[u32], t: usize, k: usize) -> Form
 
 // A form is put at place k of table t.
 fn put_form(tab: &mut [u32], t: usize, k: usize, f: Form)
-    requires { ⌜ (length (now tab) ≡ 3080) × (t < 8) × (k < 64) ⌝ }
+    requires { ⌜ (length (now tab) ≡ 5128) × (t < 8) × (k < 64) ⌝ }
     requires { ⌜ (f .prefix < 4294967296) × (f .remainder < 4294967296) × (f .to < 4294967296) ⌝ }
     requires { ⌜ (f .lo < 4294967296) × (f .hi < 4294967296) × (f .word < 4294967296) ⌝ }
     ensures { λ _. ⌜ now (tab .exit) ≡ take (t * 385 + 1 + k * 6) (now (tab .entry)) ++
@@ -108,7 +109,7 @@ fn put_form(tab: &mut [u32], t: usize, k: usize, f: Form)
 
 // The n structures from a place of Section 2's data on are put as table t.
 fn put_table(s: &[u8], o: usize, n: usize, tables: usize, tab: &mut [u32], t: usize)
-    requires { ⌜ (length (now tab) ≡ 3080) × (t < 8) × (n ≤ 64) × (o < 8388608) × (tables ≤ 8) ⌝ }
+    requires { ⌜ (length (now tab) ≡ 5128) × (t < 8) × (n ≤ 64) × (o < 8388608) × (tables ≤ 8) ⌝ }
     requires { ⌜ every (structureRight tables) (structuresAt (now s) o n) ≡ true ⌝ }
     ensures { λ _. ⌜ Says (structuresAt (now (s .entry)) o n) (now (tab .exit)) t × Beside (now (tab .entry)) (now (tab .exit)) t ⌝ }
 {
@@ -124,7 +125,7 @@ fn put_table(s: &[u8], o: usize, n: usize, tables: usize, tab: &mut [u32], t: us
 
 // The default table is put as the first.
 fn put_default(tab: &mut [u32])
-    requires { ⌜ length (now tab) ≡ 3080 ⌝ }
+    requires { ⌜ length (now tab) ≡ 5128 ⌝ }
     ensures { λ _. ⌜ Says defaultTable (now (tab .exit)) 0 ⌝ }
 {
     tab[0] = 19;
@@ -137,7 +138,7 @@ fn put_default(tab: &mut [u32])
 
 // The tables from n on have no structure.
 fn put_none(tab: &mut [u32], n: usize)
-    requires { ⌜ (length (now tab) ≡ 3080) × (n ≤ 8) ⌝ }
+    requires { ⌜ (length (now tab) ≡ 5128) × (n ≤ 8) ⌝ }
     ensures { λ _. ⌜ ((t : ℕ) → n ≤ t → t < 8 → Says [] (now (tab .exit)) t)
         × ((i : ℕ) → i < n * 385 → getD (now (tab .exit)) i 0 ≡ getD (now (tab .entry)) i 0) ⌝ }
 {
@@ -150,7 +151,7 @@ fn put_none(tab: &mut [u32], n: usize)
 
 // The n tables from a place of Section 2's data on are put as the first n.
 fn put_tables(s: &[u8], o: usize, n: usize, tab: &mut [u32])
-    requires { ⌜ (length (now tab) ≡ 3080) × (n ≤ 8) × (o < 2097152) ⌝ }
+    requires { ⌜ (length (now tab) ≡ 5128) × (n ≤ 8) × (o < 2097152) ⌝ }
     requires { ⌜ every (tableRight n) (tablesFrom (now s) o n) ≡ true ⌝ }
     ensures { λ _. ⌜ ((t : ℕ) → t < n → Says (getD (tablesFrom (now (s .entry)) o n) t []) (now (tab .exit)) t) ⌝ }
 {
@@ -164,8 +165,8 @@ fn put_tables(s: &[u8], o: usize, n: usize, tab: &mut [u32])
 }
 
 // The tables of Section 2's data, which start at place `at` and were judged to be right, are put as forms.
-pub fn compile(s: &[u8], at: usize, spare: usize, tab: &mut [u32])
-    requires { ⌜ (length (now tab) ≡ 3080) × (at ≤ 1048576) × (section2Right spare (now s) at ≡ true) ⌝ }
+fn put_all(s: &[u8], at: usize, spare: usize, tab: &mut [u32])
+    requires { ⌜ (length (now tab) ≡ 5128) × (at ≤ 1048576) × (section2Right spare (now s) at ≡ true) ⌝ }
     ensures { λ _. ⌜ Ready (tablesIn (now (s .entry)) at) (now (tab .exit)) ⌝ }
 {
     if tables::is_default(s, at) {
@@ -176,4 +177,63 @@ pub fn compile(s: &[u8], at: usize, spare: usize, tab: &mut [u32])
     let n = wire::number16(s, at);
     put_tables(s, at + 2, n, tab);
     put_none(tab, n);
+}
+
+// Structure k of table t is what to try first wherever its prefix begins the first eight bits, unless it is longer than these.
+fn put_guess(tab: &mut [u32], t: usize, k: usize)
+    requires { ⌜ (length (now tab) ≡ 5128) × (t < 8) × (k < 64) ⌝ }
+    ensures { λ _. ⌜ SameTables (now (tab .entry)) (now (tab .exit)) ⌝ }
+{
+    let f = form_at(tab, t, k);
+    if 8 < f.prefix {
+        return;
+    }
+    let width = 8 - f.prefix;
+    let many = tables::power(width);
+    let from = f.word << width;
+    if 256 - many < from {
+        return;
+    }
+    let mut b = 0;
+    while b < many {
+        tab[3080 + t * 256 + from + b] = k as u32;
+        b += 1;
+    }
+}
+
+// What to try first, by the structures of table t.
+fn put_guesses(tab: &mut [u32], t: usize)
+    requires { ⌜ (length (now tab) ≡ 5128) × (t < 8) ⌝ }
+    ensures { λ _. ⌜ SameTables (now (tab .entry)) (now (tab .exit)) ⌝ }
+{
+    let n = tab[t * 385] as usize;
+    if 64 < n {
+        return;
+    }
+    let mut k = 0;
+    while k < n {
+        put_guess(tab, t, k);
+        k += 1;
+    }
+}
+
+// The tables of Section 2's data, which start at place `at` and were judged to be right, are put as forms, with what to try first.
+pub fn compile(s: &[u8], at: usize, spare: usize, tab: &mut [u32])
+    requires { ⌜ (length (now tab) ≡ 5128) × (at ≤ 1048576) × (section2Right spare (now s) at ≡ true) ⌝ }
+    ensures { λ _. ⌜ Ready (tablesIn (now (s .entry)) at) (now (tab .exit)) ⌝ }
+{
+    put_all(s, at, spare, tab);
+    let mut t = 0;
+    while t < 8 {
+        put_guesses(tab, t);
+        t += 1;
+    }
+}
+
+// The place of the structure of table t to try first for the bits of a window. Nothing is said of it: whoever takes it tests it.
+pub fn guess(tab: &[u32], t: usize, w: u64) -> usize
+    requires { ⌜ (length (now tab) ≡ 5128) × (t < 8) ⌝ }
+{
+    let first = bits::top(w, 8) as usize;
+    tab[3080 + t * 256 + first] as usize
 }

@@ -228,15 +228,15 @@ module _ (s2 : List ℕ) (h : length s2 ≡ 0 → ⊥) where
   tables-some = rw (ne-eqb (length s2) 0 h)
 
   -- numbers that say the tables of its data hold them
-  pub tables-held : (tab : List ℕ) → Ready (tablesIn s2 0) tab → Holding (tablesGiven s2) (take 3080 tab)
+  pub tables-held : (tab : List ℕ) → Ready (tablesIn s2 0) tab → Holding (tablesGiven s2) (take 5128 tab)
   tables-held tab ready =
-      let whole : take 3080 tab ≡ tab = take-all 3080 tab (omega (arith, ready .room)) in
+      let whole : take 5128 tab ≡ tab = take-all 5128 tab (omega (arith, ready .room)) in
       rw (whole, tables-some) (inl ready)
 
-  pub held-some : 3080 ≡ heldFor (length s2)
+  pub held-some : 5128 ≡ heldFor (length s2)
   held-some = go (length s2) h
     where
-      go : (n : ℕ) → (n ≡ 0 → ⊥) → 3080 ≡ heldFor n
+      go : (n : ℕ) → (n ≡ 0 → ⊥) → 5128 ≡ heldFor n
       go zero g = absurd (g refl)
       go (suc n) g = refl
 

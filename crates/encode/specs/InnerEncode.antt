@@ -50,4 +50,4 @@ clearedIf (suc n) work = replicate (length work) 0
 -- how many numbers hold the tables of Section 2's data, of which there are so many bytes
 abbrev pub heldFor : ℕ → ℕ
 heldFor zero = 0
-heldFor (suc n) = 3080
+heldFor (suc n) = 5128

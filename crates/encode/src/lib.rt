@@ -306,23 +306,23 @@ fn asked_refusal(section2: &[u8], count: usize, order: usize, work: usize) -> u8
 }
 
 // Room of its own for the numbers of the code tables, all of them 0.
-pub fn table_room() -> [u32; 3080]
-    ensures { λ r. ⌜ r ≡ replicate 3080 0 ⌝ }
+pub fn table_room() -> [u32; 5128]
+    ensures { λ r. ⌜ r ≡ replicate 5128 0 ⌝ }
 {
-    [0; 3080]
+    [0; 5128]
 }
 
 // Section 2's tables are taken apart into the room; answered is how many of its numbers hold them, 0 without Section 2.
 pub fn hold_tables(section2: &[u8], tab: &mut [u32]) -> usize
-    requires { ⌜ (length (now tab) ≡ 3080) × (tablesGivenRight (now section2) ≡ true) ⌝ }
-    ensures { λ r. ⌜ (r ≤ 3080) × Holding (tablesGiven (now (section2 .entry))) (take r (now (tab .exit)))
+    requires { ⌜ (length (now tab) ≡ 5128) × (tablesGivenRight (now section2) ≡ true) ⌝ }
+    ensures { λ r. ⌜ (r ≤ 5128) × Holding (tablesGiven (now (section2 .entry))) (take r (now (tab .exit)))
         × (r ≡ heldFor (length (now (section2 .entry)))) ⌝ }
 {
     if section2.len() == 0 {
         return 0;
     }
     compiled::compile(section2, 0, 0, tab);
-    3080
+    5128
 }
 
 // A lead's samples become the shortest stream for their differences, at the front of the output.

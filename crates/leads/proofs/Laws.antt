@@ -53,10 +53,10 @@ zeros l n e h = e ∙ ap (λ (i : ℕ). replicate i (pos 0)) h
 
 -- numbers that say the tables of Section 2 hold those of the record
 pub tables-held : (r s tab : List ℕ) → present r 2 ≡ true → s ≡ sectionOf r 2 → Ready (tablesIn s 16) tab
-    → Holding (tablesOf r) (take 3080 tab)
+    → Holding (tablesOf r) (take 5128 tab)
 unfolding tablesOf
 tables-held r s tab here e ready =
-    let whole : take 3080 tab ≡ tab = take-all 3080 tab (omega (arith, ready .room)) in
+    let whole : take 5128 tab ≡ tab = take-all 5128 tab (omega (arith, ready .room)) in
     rw (here, ← e, whole) (inl ready)
 
 -- a number was found beside samples; with 0 they are those of the trace

@@ -42,8 +42,8 @@ pub struct Entry {
 }
 
 // Room of its own: for the numbers of the code tables, and for the samples of a lead.
-fn table_room() -> [u32; 3080] {
-    [0; 3080]
+fn table_room() -> [u32; 5128] {
+    [0; 5128]
 }
 
 fn sample_room() -> [i16; 65536] {
@@ -75,14 +75,14 @@ fn copy(xs: &[i16], out: &mut [i16])
 
 // The record's code tables are taken apart into the room; answered is how many of its numbers hold them, 0 without Section 2.
 fn hold_tables(rec: &[u8], tab: &mut [u32]) -> usize
-    requires { ⌜ (length (now tab) ≡ 3080) × (tablesRight (now rec) ≡ true) ⌝ }
-    ensures { λ r. ⌜ (r ≤ 3080) × Holding (tablesOf (now (rec .entry))) (take r (now (tab .exit))) ⌝ }
+    requires { ⌜ (length (now tab) ≡ 5128) × (tablesRight (now rec) ≡ true) ⌝ }
+    ensures { λ r. ⌜ (r ≤ 5128) × Holding (tablesOf (now (rec .entry))) (take r (now (tab .exit))) ⌝ }
 {
     if !pointers::is_present(rec, 2) {
         return 0;
     }
     compiled::compile(pointers::section_of(rec, 2), 16, 1, tab);
-    3080
+    5128
 }
 
 // Lead k's stream in Section 5 or 6 is rebuilt into the room: 0, or the number of the fault met.

@@ -11,7 +11,7 @@ use lib.ListN.{length, getD, drop, length-append}
 use lib.Seq.{take-at, drop-at}
 use Rattle.wire.specs.Rules.{every}
 use Rattle.bits.specs.Bits.{highFirst, signed, begins}
-use Rattle.bits.proofs.Laws.{length-highFirst, length-lowFirst, number-high, begins-append}
+use Rattle.bits.proofs.Laws.{length-highFirst, length-lowFirst, number-high, begins-append, begins-split}
 use Rattle.tables.specs.declared.Structure.{Structure}
 use Rattle.tables.specs.Structures.{prefixOf, remainderOf, apart}
 use Rattle.tables.specs.Section2.{tableOf, tableRight}
@@ -42,6 +42,15 @@ matching-apart (c ∷ cs) free zero h bs = rw (begins-append (prefixOf c) bs)
 matching-apart (d ∷ cs) free (suc k) h bs =
     let other = apart-begins (prefixOf d) (prefixOf (getD cs k noStructure)) bs (free 0 (suc k) (omega arith) h) in
     rw other (matching-apart cs (λ i j g l. free (suc i) (suc j) (omega arith) (omega arith)) k (omega arith) bs)
+
+-- so is one whose prefix the bits begin with
+pub matching-begun : (cs : List Structure)
+    → ((j k : ℕ) → j < k → k < length cs → apart (getD cs j noStructure) (getD cs k noStructure) ≡ true)
+    → (k : ℕ) → k < length cs → (bs : List ℕ) → begins (prefixOf (getD cs k noStructure)) bs ≡ true
+    → matching cs bs ≡ some (getD cs k noStructure)
+matching-begun cs free k h bs e =
+    let p = prefixOf (getD cs k noStructure) in
+    ap (matching cs) (begins-split p bs e) ∙ matching-apart cs free k h (drop (length p) bs)
 
 -- a structure c stands at place k of a right table
 module _ (n : ℕ) (tables : List (List Structure)) (right : every (tableRight n) tables ≡ true) (table : ℕ) (k : ℕ) (c : Structure)

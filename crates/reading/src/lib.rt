@@ -51,8 +51,8 @@ fn begins_with(f: Form, w: u64, left: usize) -> bool
     bits::top(w, p) == f.word as u64
 }
 
-// The form of the structure of table t, counted from 0, whose prefix the window begins with.
-fn find(tab: &[u32], t: usize, w: u64, left: usize) -> Found
+// The form of the structure of table t, counted from 0, whose prefix the window begins with: the first such from place 0 on.
+fn walk(tab: &[u32], t: usize, w: u64, left: usize) -> Found
     requires { ⌜ Filled (now tab) × (t < 8) ⌝ }
     ensures { λ r. ⌜ ((tables : List (List Structure)) (bs : List ℕ) → Ready tables (now (tab .entry)) → Seen bs w left
         → foundIn r ≡ formed (matching (getD tables t []) bs)) ⌝ }
@@ -67,6 +67,23 @@ fn find(tab: &[u32], t: usize, w: u64, left: usize) -> Found
         k += 1;
     }
     Found::Nothing
+}
+
+// The same, most often at once: in a right table no other structure matches if the one that the first bits point to does.
+fn find(tab: &[u32], t: usize, w: u64, left: usize) -> Found
+    requires { ⌜ Filled (now tab) × (t < 8) ⌝ }
+    ensures { λ r. ⌜ ((tables : List (List Structure)) (bs : List ℕ) → Ready tables (now (tab .entry)) → Seen bs w left
+        → foundIn r ≡ formed (matching (getD tables t []) bs)) ⌝ }
+{
+    let k = compiled::guess(tab, t, w);
+    if tab[t * 385] as usize <= k {
+        return walk(tab, t, w, left);
+    }
+    let guessed = compiled::form_at(tab, t, k);
+    if begins_with(guessed, w, left) {
+        return Found::At(guessed);
+    }
+    walk(tab, t, w, left)
 }
 
 // A number in two's complement of one bit more than `half` has noughts, 131,072 added.

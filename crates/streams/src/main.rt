@@ -69,8 +69,8 @@ const MANY: [u8; 15] = *b"\xFF\x83\x7F\xE0\xE6\xF1\x53\x65\x59\xB6\x5B\x96\x4B\x
 const MISPRINT: [u8; 14] = *b"\xFF\x83\x7F\xE0\xE6\xF5\x53\x65\x59\xB6\x5B\x96\x4B\x96";
 
 // Room for the tables, and the longest lead, all zeros; without a clause, since the types say the lengths.
-fn room() -> [u32; 3080] {
-    [0; 3080]
+fn room() -> [u32; 5128] {
+    [0; 5128]
 }
 
 fn zeros() -> [u8; 65535] {

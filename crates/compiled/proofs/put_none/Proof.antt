@@ -12,7 +12,7 @@ use Rattle.compiled.proofs.put_none.Tie as tie
 
 abbrev Inv-loop : tie.InvT-loop
 Inv-loop tab₀ n t₀ tab t =
-    (n ≤ t) × (t ≤ 8) × (length tab ≡ 3080)
+    (n ≤ t) × (t ≤ 8) × (length tab ≡ 5128)
     × ((u : ℕ) → u < t → n ≤ u → Says [] tab u)
     × ((i : ℕ) → i < n * 385 → getD tab i 0 ≡ getD tab₀ i 0)
 

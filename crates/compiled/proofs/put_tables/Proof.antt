@@ -18,7 +18,7 @@ use Rattle.compiled.proofs.put_tables.Tie as tie
 
 abbrev Inv-loop : tie.InvT-loop
 Inv-loop s o n tab₀ from₀ t₀ tab from t =
-    (t ≤ n) × (from ≤ o + 578 * t) × (length tab ≡ 3080)
+    (t ≤ n) × (from ≤ o + 578 * t) × (length tab ≡ 5128)
     × (tablesFrom s from (n - t) ≡ drop t (tablesFrom s o n))
     × ((u : ℕ) → u < t → Says (getD (tablesFrom s o n) u []) tab u)
 

@@ -1,126 +1,82 @@
--- At every turn the structures that are left decide, since none before matched; the form of the next one tells whether it does.
-use Prim.Native.Nat.{ℕ, _-_, _*_, _≤_, _<_}
-use mathlib.Core.Path.{_≡_, refl, sym, ap, _∙_}
+-- What the first bits point to is tested before it is taken; where the test holds, no other structure of a right table matches.
+use Prim.Native.Nat.{ℕ, _*_, _<_}
+use mathlib.Core.Path.{_≡_, sym, ap, _∙_}
 use mathlib.Core.List.{List, []}
 use mathlib.Core.Option.{some}
-use native.Mathlib.Numerals.{add-one}
 use native.Mathlib.Omega.{arith}
-use lib.ListN.{length, getD, drop}
-use Rattle.bits.specs.Bits.{begins}
+use lib.ListN.{length, getD}
+use borrow.Author.Needs.{needs}
 use Rattle.tables.specs.declared.Structure.{Structure}
-use Rattle.tables.specs.Structures.{prefixOf}
 use Rattle.tables.specs.InnerStructures.{noStructure}
-use Rattle.compiled.specs.InnerForm.{formOf, Ready}
-use Rattle.compiled.proofs.Laws.{held-count, held-form, held-fine}
-use Rattle.reading.specs.Reading.{matching}
-use Rattle.reading.specs.InnerCursor.{Seen, formed}
-use Rattle.reading.proofs.Cursors.{matching-here, matching-behind, matching-end}
+use Rattle.compiled.proofs.Laws.{held-count, held-form, held-fine, held-apart}
+use Rattle.reading.specs.InnerCursor.{formed}
+use Rattle.reading.proofs.Trip.{matching-begun}
 use Rattle.reading.proofs.find.Statement.{statement}
 use Rattle.reading.proofs.find.Tie as tie
 
-abbrev Inv-loop : tie.InvT-loop
-Inv-loop tab t w left n k₀ k =
-    (k ≤ n)
-    × ((tables : List (List Structure)) (bs : List ℕ) → Ready tables tab → Seen bs w left
-    → matching (drop k (getD tables t [])) bs ≡ matching (getD tables t []) bs)
+guess-requires : tie.Need-guess-requires
+guess-requires c κs = search needs
 
-abbrev μ-loop : tie.MeasureT-loop
-μ-loop tab t w left n k₀ k = n - k
+mul-if1 : tie.Need-mul-if1
+mul-if1 c = search needs
 
-mul-n : tie.Need-mul-n Inv-loop μ-loop
-mul-n c = omega arith
+mul-if1-2 : tie.Need-mul-if1-2
+mul-if1-2 c = search needs
 
-mul-n-2 : tie.Need-mul-n-2 Inv-loop μ-loop
-mul-n-2 c = omega arith
+shared-slice-read-if1 : tie.Need-shared-slice-read-if1
+shared-slice-read-if1 c = search needs
 
-shared-slice-read-n : tie.Need-shared-slice-read-n Inv-loop μ-loop
-shared-slice-read-n c = omega (arith, c .before .before .pre .0 .1 .room)
+cast-if1 : tie.Need-cast-if1
+cast-if1 c = omega (arith, c .shared-slice-known2 .given (c .before .before .before .args .t * 385))
 
-cast-n : tie.Need-cast-n Inv-loop μ-loop
-cast-n c = omega (arith, c .shared-slice-known2 .given (c .before .before .args .t * 385))
+walk-requires : tie.Need-walk-requires
+walk-requires c κs = search needs
 
-loop-holds : tie.Need-loop-holds Inv-loop μ-loop
-loop-holds c = (omega arith, λ tables bs ready seen. refl)
+returns : tie.Need-returns
+returns c = search needs
 
-form-at-requires : tie.Need-form-at-requires Inv-loop μ-loop
+form-at-requires : tie.Need-form-at-requires
 form-at-requires c κs =
-    let ready = c .before .before .before .before .pre .0 .1 in
-    (ready .room, omega arith, omega (arith, held-count ready (c .before .before .before .before .args .t) (omega arith)))
+    let start = c .before .before .before .before in
+    let ready = start .pre .0 .1 in
+    (ready .room, omega arith, omega (arith, held-count ready (start .args .t) (omega arith)))
 
-begins-with-requires : tie.Need-begins-with-requires Inv-loop μ-loop
+begins-with-requires : tie.Need-begins-with-requires
 begins-with-requires c κs =
     let start = c .before .before .before .before .before in
-    let f = held-fine (start .pre .0 .1) (start .args .t) (omega arith) (c .before .before .loop .k) (omega arith) in
+    let f = held-fine (start .pre .0 .1) (start .args .t) (omega arith) (c .before .before .before .guess .result) (omega arith) in
     rw (c .form-at .ensures) (f .some, f .most)
 
--- the window tells whether the structure at k is the one
-tells : (c : tie.After-begins-with Inv-loop μ-loop) →
-    let a = c .before .before .before .before .before .before .args in
-    (tables : List (List Structure)) (bs : List ℕ) → Ready tables (a .tab .now) → Seen bs (a .w) (a .left) →
-    let d = getD (getD tables (a .t) []) (c .before .before .before .loop .k) noStructure in
-    (formOf d ≡ c .before .form-at .result) × (c .begins-with .result ≡ begins (prefixOf d) bs)
-tells c tables bs ready seen =
-    let a = c .before .before .before .before .before .before .args in
-    let k = c .before .before .before .loop .k in
-    let e = sym (c .before .form-at .ensures ∙ held-form ready (a .t) (omega arith) k (omega arith)) in
-    (e, c .begins-with .ensures (getD (getD tables (a .t) []) k noStructure) bs e seen)
-
--- there is a structure at k
-there : (c : tie.After-begins-with Inv-loop μ-loop) →
-    let a = c .before .before .before .before .before .before .args in
-    (tables : List (List Structure)) → Ready tables (a .tab .now) → c .before .before .before .loop .k < length (getD tables (a .t) [])
-there c tables ready = omega (arith, ready .says (c .before .before .before .before .before .before .args .t) (omega arith) .count)
-
-returns : tie.Need-returns Inv-loop μ-loop
-returns c tables bs ready seen =
-    let l = c .before .before .before .before .loop in
-    let cs = getD tables (c .before .before .before .before .before .before .before .args .t) [] in
-    let told = tells (c .before) tables bs ready seen in
-    let here = matching-here cs bs (l .k) (there (c .before) tables ready) (sym (told .1) ∙ c .if1 .taken) in
-    ap some (sym (told .0)) ∙ ap formed (sym here ∙ l .inv .1 tables bs ready seen)
-
-add-k : tie.Need-add-k Inv-loop μ-loop
-add-k c =
-    let start = c .before .before .before .before .before .before .before in
-    omega (arith, held-count (start .pre .0 .1) (start .args .t) (omega arith))
-
-loop-less : tie.Need-loop-less Inv-loop μ-loop
-loop-less c = omega arith
-
-loop-again : tie.Need-loop-again Inv-loop μ-loop
-loop-again c =
-    let l = c .before .before .before .before .loop in
-    let t = c .before .before .before .before .before .before .before .args .t in (
-      omega arith,
-      λ tables bs ready seen.
-          let cs = getD tables t [] in
-          let told = tells (c .before) tables bs ready seen in
-          let behind = matching-behind cs bs (l .k) (there (c .before) tables ready) (sym (told .1) ∙ c .if1 .left) in
-          rw (add-one (l .k)) (sym behind ∙ l .inv .1 tables bs ready seen),
-    )
-
-returns-2 : tie.Need-returns-2 Inv-loop μ-loop
+returns-2 : tie.Need-returns-2
 returns-2 c tables bs ready seen =
-    let l = c .before .loop in
-    let t = c .before .before .before .before .args .t in
-    let end = matching-end (getD tables t []) bs (l .k) (omega (arith, ready .says t (omega arith) .count)) in
-    ap formed (sym end ∙ l .inv .1 tables bs ready seen)
+    let t = c .before .before .before .before .before .before .before .args .t in
+    let k = c .before .before .before .before .before .guess .result in
+    let cs = getD tables t [] in
+    let d = getD cs k noStructure in
+    let there : k < length cs = omega (arith, ready .says t (omega arith) .count) in
+    let e = sym (c .before .before .form-at .ensures ∙ held-form ready t (omega arith) k (omega arith)) in
+    let begun = sym (c .before .begins-with .ensures d bs e seen) ∙ c .if2 .taken in
+    ap some (sym e) ∙ ap formed (sym (matching-begun cs (held-apart ready t (omega arith)) k there bs begun))
+
+walk-requires-2 : tie.Need-walk-requires-2
+walk-requires-2 c κs = search needs
+
+returns-3 : tie.Need-returns-3
+returns-3 c = search needs
 
 pub find-spec : {M : Type 1} → statement M
 find-spec =
     tie.close
     (tie.spec
-    Inv-loop
-    μ-loop
-    mul-n
-    mul-n-2
-    shared-slice-read-n
-    cast-n
-    loop-holds
+    guess-requires
+    mul-if1
+    mul-if1-2
+    shared-slice-read-if1
+    cast-if1
+    walk-requires
+    returns
     form-at-requires
     begins-with-requires
-    returns
-    add-k
-    loop-less
-    loop-again
-    returns-2)
+    returns-2
+    walk-requires-2
+    returns-3)
