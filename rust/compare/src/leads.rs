@@ -187,19 +187,7 @@ fn read_as_judged(
 ) -> Result<(), Difference> {
     let mut out = Space::<i16>::new(out_n, rng);
     let mut work = Space::<i16>::new(work_n, rng);
-    // SAFETY: all three are lent for the call, which only reads the record; no two of them share memory.
-    let lead = unsafe {
-        let (out, work) = (out.lent(), work.lent());
-        raw::scp_read_lead(
-            record.as_ptr(),
-            record.len(),
-            place,
-            out.as_mut_ptr(),
-            out.len(),
-            work.as_mut_ptr(),
-            work.len(),
-        )
-    };
+    let lead = raw::read_lead(record, place, out.lent(), work.lent());
     let call = format!("scp_read_lead, place {place}, output of {out_n}, work space of {work_n}");
     let (expected, samples, cleared) = expected(&judged);
     same(&call, lead, expected)?;

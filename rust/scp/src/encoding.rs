@@ -35,21 +35,7 @@ pub fn encode_lead(
     work: &mut [u8],
     out: &mut [u8],
 ) -> Result<Coded, Refusal> {
-    // SAFETY: all four are slices lent for the call, which only reads the first two; no two of them share memory that it
-    // writes to.
-    let coded = unsafe {
-        raw::scp_encode_lead(
-            section2.as_ptr(),
-            section2.len(),
-            samples.as_ptr(),
-            samples.len(),
-            order,
-            work.as_mut_ptr(),
-            work.len(),
-            out.as_mut_ptr(),
-            out.len(),
-        )
-    };
+    let coded = raw::encode_lead(section2, samples, order, work, out);
     let answer = Coded {
         bytes: coded.bytes as usize,
         bits: coded.bits as usize,

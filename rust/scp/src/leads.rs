@@ -82,18 +82,7 @@ pub fn read_lead(
     out: &mut [i16],
     work: &mut [i16],
 ) -> Result<Lead, Refusal> {
-    // SAFETY: all three are slices lent for the call, which only reads the first; no two of them share memory.
-    let lead = unsafe {
-        raw::scp_read_lead(
-            record.as_ptr(),
-            record.len(),
-            place,
-            out.as_mut_ptr(),
-            out.len(),
-            work.as_mut_ptr(),
-            work.len(),
-        )
-    };
+    let lead = raw::read_lead(record, place, out, work);
     let answer = Lead {
         id: lead.id,
         flags: lead.flags,

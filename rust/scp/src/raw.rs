@@ -1,4 +1,7 @@
-//! The C interface as it is, call for call: `rust/include/scp.h` in Rust's words. What each call answers is said there.
+//! The C interface as it is, call for call: `rust/include/scp.h` in Rust's words. What each call answers is said there. The
+//! calls that room is lent to are here on slices too, with the same answers.
+
+use crate::Job;
 
 /// The most pointers that a record has.
 pub const POINTERS_MAX: usize = 64;
@@ -175,4 +178,78 @@ extern "C" {
         out: *mut u8,
         out_n: usize,
     ) -> ScpWritten;
+}
+
+// ---- the calls that room is lent to, on slices
+
+/// [`scp_read_lead`] on slices.
+pub fn read_lead(record: &[u8], place: usize, out: &mut [i16], work: &mut [i16]) -> ScpLead {
+    // SAFETY: all three are slices lent for the call, which only reads the first; no two of them share memory.
+    unsafe {
+        scp_read_lead(
+            record.as_ptr(),
+            record.len(),
+            place,
+            out.as_mut_ptr(),
+            out.len(),
+            work.as_mut_ptr(),
+            work.len(),
+        )
+    }
+}
+
+/// [`scp_encode_lead`] on slices.
+pub fn encode_lead(
+    section2: &[u8],
+    samples: &[i16],
+    order: u8,
+    work: &mut [u8],
+    out: &mut [u8],
+) -> ScpCoded {
+    // SAFETY: all four are slices lent for the call, which only reads the first two; no two of them share memory that it
+    // writes to.
+    unsafe {
+        scp_encode_lead(
+            section2.as_ptr(),
+            section2.len(),
+            samples.as_ptr(),
+            samples.len(),
+            order,
+            work.as_mut_ptr(),
+            work.len(),
+            out.as_mut_ptr(),
+            out.len(),
+        )
+    }
+}
+
+/// [`scp_write_record`] on slices.
+pub fn write_record(job: &Job, work: &mut [u8], out: &mut [u8]) -> ScpWritten {
+    // SAFETY: all are slices lent for the call, which only reads those of the job; no two of them share memory that it
+    // writes to.
+    unsafe {
+        scp_write_record(
+            job.section1.as_ptr(),
+            job.section1.len(),
+            job.section2.as_ptr(),
+            job.section2.len(),
+            job.version,
+            job.flags,
+            job.step,
+            job.interval,
+            job.order,
+            job.firsts.as_ptr(),
+            job.firsts.len(),
+            job.counts.as_ptr(),
+            job.counts.len(),
+            job.ids.as_ptr(),
+            job.ids.len(),
+            job.samples.as_ptr(),
+            job.samples.len(),
+            work.as_mut_ptr(),
+            work.len(),
+            out.as_mut_ptr(),
+            out.len(),
+        )
+    }
 }

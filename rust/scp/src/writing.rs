@@ -56,33 +56,7 @@ impl Job<'_> {
 /// Refused with the first that applies of 17, 6, 7, 11 for work space, 15 for all leads, 16 and 11 for output; `out` is then
 /// as it was.
 pub fn write_record(job: &Job, work: &mut [u8], out: &mut [u8]) -> Result<usize, Refusal> {
-    // SAFETY: all are slices lent for the call, which only reads those of the job; no two of them share memory that it
-    // writes to.
-    let written = unsafe {
-        raw::scp_write_record(
-            job.section1.as_ptr(),
-            job.section1.len(),
-            job.section2.as_ptr(),
-            job.section2.len(),
-            job.version,
-            job.flags,
-            job.step,
-            job.interval,
-            job.order,
-            job.firsts.as_ptr(),
-            job.firsts.len(),
-            job.counts.as_ptr(),
-            job.counts.len(),
-            job.ids.as_ptr(),
-            job.ids.len(),
-            job.samples.as_ptr(),
-            job.samples.len(),
-            work.as_mut_ptr(),
-            work.len(),
-            out.as_mut_ptr(),
-            out.len(),
-        )
-    };
+    let written = raw::write_record(job, work, out);
     Refusal::or(written.refusal, written.bytes as usize)
 }
 

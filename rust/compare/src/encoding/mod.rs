@@ -124,21 +124,8 @@ impl Job<'_> {
     ) -> Result<raw::ScpCoded, Difference> {
         let mut work = Space::<u8>::new(work_n, rng);
         let mut out = Space::<u8>::new(out_n, rng);
-        // SAFETY: all four are lent for the call, which only reads the first two; those that it writes to share no memory.
-        let answer = unsafe {
-            let (work, out) = (work.lent(), out.lent());
-            raw::scp_encode_lead(
-                self.section2.as_ptr(),
-                self.section2.len(),
-                self.samples.as_ptr(),
-                self.samples.len(),
-                self.order,
-                work.as_mut_ptr(),
-                work.len(),
-                out.as_mut_ptr(),
-                out.len(),
-            )
-        };
+        let (section2, samples) = (self.section2, self.samples);
+        let answer = raw::encode_lead(section2, samples, self.order, work.lent(), out.lent());
         let call = format!("scp_encode_lead, work space of {work_n}, output of {out_n}");
         let (right, stream): (_, &[u8]) = match expected {
             Err(refused) => (

@@ -119,7 +119,7 @@ pub fn by_library(
 ) -> Result<(), Difference> {
     let mut work = Space::<u8>::new(work_n, rng);
     let mut out = Space::<u8>::new(out_n, rng);
-    let answer = call(job, work.lent(), out.lent());
+    let answer = raw::write_record(&job_of(job), work.lent(), out.lent());
     let (right, record): (_, &[u8]) = match expected {
         Err(refused) => (
             raw::ScpWritten {
@@ -158,33 +158,20 @@ pub fn by_library(
     }
 }
 
-/// The call itself.
-fn call(job: &Writing, work: &mut [u8], out: &mut [u8]) -> raw::ScpWritten {
-    // SAFETY: all are slices lent for the call, which only reads those of the job; those that it writes to share no memory.
-    unsafe {
-        raw::scp_write_record(
-            job.section1.as_ptr(),
-            job.section1.len(),
-            job.section2.as_ptr(),
-            job.section2.len(),
-            job.version,
-            job.flags,
-            job.step,
-            job.interval,
-            job.order,
-            job.firsts.as_ptr(),
-            job.firsts.len(),
-            job.counts.as_ptr(),
-            job.counts.len(),
-            job.ids.as_ptr(),
-            job.ids.len(),
-            job.samples.as_ptr(),
-            job.samples.len(),
-            work.as_mut_ptr(),
-            work.len(),
-            out.as_mut_ptr(),
-            out.len(),
-        )
+/// The job as the library takes it.
+fn job_of<'a>(job: &Writing<'a>) -> scp::Job<'a> {
+    scp::Job {
+        section1: job.section1,
+        section2: job.section2,
+        version: job.version,
+        flags: job.flags,
+        step: job.step,
+        interval: job.interval,
+        order: job.order,
+        firsts: job.firsts,
+        counts: job.counts,
+        ids: job.ids,
+        samples: job.samples,
     }
 }
 
@@ -238,20 +225,7 @@ pub fn read_back(job: &Writing, record: &[u8], counts: &mut Counts) -> Result<()
 
 /// The safe wrapper says the same as the judge.
 fn wrapper(job: &Writing, judged: &Result<Vec<u8>, Refused>) -> Result<(), Difference> {
-    let job = scp::Job {
-        section1: job.section1,
-        section2: job.section2,
-        version: job.version,
-        flags: job.flags,
-        step: job.step,
-        interval: job.interval,
-        order: job.order,
-        firsts: job.firsts,
-        counts: job.counts,
-        ids: job.ids,
-        samples: job.samples,
-    };
-    let written = scp::written(&job).map_err(scp::Refusal::number);
+    let written = scp::written(&job_of(job)).map_err(scp::Refusal::number);
     let judged = judged.clone().map_err(|refused| refused.number);
     same("written", number(&written), number(&judged))?;
     hold(written == judged, "written: not the judge's record")
