@@ -8,7 +8,7 @@ use scp::raw;
 
 use crate::calls::{hold, number, same, Difference};
 use crate::draft;
-use crate::lent::Space;
+use crate::guarded::{self, Right};
 use crate::tally::{Call, Tally};
 
 /// The places asked for in every record: all that a lead can have, and one on each side.
@@ -121,18 +121,18 @@ fn read_once(
     let more = rng.pick(&[0, 0, 1]) * rng.small(500);
     match judged {
         Ok(entry) => {
-            let (out, work) = needs(record, &entry);
-            read(record, place, (out + more, work), rng, tally)
+            let (work, out) = needs(record, &entry);
+            read(record, place, (work, out + more), rng, tally)
         }
         Err(refusal) => {
             let refused = Err(Refused::untouched(refusal));
-            let lengths = (more, rng.small(300));
+            let lengths = (rng.small(300), more);
             read_as_judged(record, place, lengths, refused, rng, tally)
         }
     }
 }
 
-/// Reads a lead with output and work space of just enough, one too few, none and far too many elements, each with each.
+/// Reads a lead with room of every kind of length.
 fn read_with_every_length(
     record: &[u8],
     place: usize,
@@ -142,86 +142,63 @@ fn read_with_every_length(
     let Ok(entry) = judge::lead(record, place) else {
         return Ok(());
     };
-    let (out, work) = needs(record, &entry);
-    let mut lengths = |enough: usize| {
-        let more = rng.small(3000);
-        let far = match rng.one_in(40) {
-            true => 2 * scp::SAMPLES_MAX + more,
-            false => enough + 100 + more,
-        };
-        let mut lengths = vec![enough, enough.saturating_sub(1), 0, far];
-        lengths.sort();
-        lengths.dedup();
-        lengths
-    };
-    let (outs, works) = (lengths(out), lengths(work));
-    for &out in &outs {
-        for &work in &works {
-            read(record, place, (out, work), rng, tally)?;
-        }
-    }
-    Ok(())
+    let most = 2 * scp::SAMPLES_MAX;
+    guarded::with_every_length(needs(record, &entry), most, rng, |lengths, rng| {
+        read(record, place, lengths, rng, tally)
+    })
 }
 
-/// Reads a lead with so many elements of output and of work space.
+/// Reads a lead with so many elements of work space and of output.
 fn read(
     record: &[u8],
     place: usize,
-    (out_n, work_n): (usize, usize),
+    (work_n, out_n): (usize, usize),
     rng: &mut Rng,
     tally: &mut Tally,
 ) -> Result<(), Difference> {
     let judged = judge::read_lead(record, place, out_n, work_n);
-    read_as_judged(record, place, (out_n, work_n), judged, rng, tally)
+    read_as_judged(record, place, (work_n, out_n), judged, rng, tally)
 }
 
-/// Has the library read a lead with so many elements of output and of work space, with guards around both, and holds what
+/// Has the library read a lead with so many elements of work space and of output, with guards around both, and holds what
 /// comes back to what the judge has.
 fn read_as_judged(
     record: &[u8],
     place: usize,
-    (out_n, work_n): (usize, usize),
+    lengths: (usize, usize),
     judged: Result<judge::Lead, Refused>,
     rng: &mut Rng,
     tally: &mut Tally,
 ) -> Result<(), Difference> {
-    let mut out = Space::<i16>::new(out_n, rng);
-    let mut work = Space::<i16>::new(work_n, rng);
-    let lead = raw::read_lead(record, place, out.lent(), work.lent());
-    let call = format!("scp_read_lead, place {place}, output of {out_n}, work space of {work_n}");
-    let (expected, samples, cleared) = expected(&judged);
-    same(&call, lead, expected)?;
-    let asked = |holds, words: &str| hold(holds, &format!("{call}: {words}"));
-    asked(
-        out.holds(samples),
-        "the samples differ, or other elements were changed",
-    )?;
-    match cleared {
-        true => asked(work.is_cleared(), "the work space is not zeros, all of it")?,
-        false => asked(work.is_untouched(), "the work space was changed")?,
-    }
+    let right = right(&judged);
+    let (samples, cleared) = (right.out.len(), right.cleared);
+    let name = format!("scp_read_lead, place {place}");
+    let lead = guarded::call(&name, lengths, right, rng, |work, out| {
+        raw::read_lead(record, place, out, work)
+    })?;
     let call = if cleared {
         Call::ReadLeadWithBeat
     } else {
         Call::ReadLead
     };
-    tally.answer(call, expected.refusal);
-    tally.samples(samples.len());
+    tally.answer(call, lead.refusal);
+    tally.samples(samples);
     Ok(())
 }
 
-/// What is to come back: the answer, the samples, and whether the work space is cleared.
-fn expected(judged: &Result<judge::Lead, Refused>) -> (raw::ScpLead, &[i16], bool) {
+/// What is to come back.
+fn right(judged: &Result<judge::Lead, Refused>) -> Right<'_, raw::ScpLead, i16> {
     match judged {
-        Err(refused) => {
-            let lead = raw::ScpLead {
+        Err(refused) => Right {
+            answer: raw::ScpLead {
                 refusal: refused.number,
                 ..Default::default()
-            };
-            (lead, &[], refused.work_cleared)
-        }
-        Ok(read) => {
-            let lead = raw::ScpLead {
+            },
+            out: &[],
+            cleared: refused.work_cleared,
+        },
+        Ok(read) => Right {
+            answer: raw::ScpLead {
                 refusal: 0,
                 id: read.id,
                 flags: read.flags,
@@ -229,19 +206,20 @@ fn expected(judged: &Result<judge::Lead, Refused>) -> (raw::ScpLead, &[i16], boo
                 interval: read.interval,
                 first: read.first,
                 count: read.samples.len() as u32,
-            };
-            (lead, &read.samples, read.work_cleared)
-        }
+            },
+            out: &read.samples,
+            cleared: read.work_cleared,
+        },
     }
 }
 
-/// How many elements of output and of work space reading this lead takes.
+/// How many elements of work space and of output reading this lead takes.
 fn needs(record: &[u8], entry: &judge::Entry) -> (usize, usize) {
     let work = match entry.flags & 1 {
         1 => beat_count(record),
         _ => 0,
     };
-    ((entry.last - entry.first) as usize + 1, work)
+    (work, (entry.last - entry.first) as usize + 1)
 }
 
 /// N of a record that has leads and a beat: from the beat's length in Section 4 and the interval in Section 5.

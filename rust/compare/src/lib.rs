@@ -10,6 +10,7 @@ mod draft;
 pub mod edges;
 pub mod encoding;
 pub mod extremes;
+mod guarded;
 pub mod inputs;
 mod leads;
 mod lent;

@@ -60,6 +60,15 @@ pub fn tables(tables: &[Vec<Code>]) -> Vec<u8> {
     data
 }
 
+/// How many tables the data of a Section 2 say that they have, where they may have so many.
+pub fn tables_in(section2: &[u8]) -> usize {
+    match *section2 {
+        [low, high, ..] if [low, high] == DEFAULT_TABLE => 1,
+        [low, high, ..] => usize::from(u16::from_le_bytes([low, high])).min(scp::TABLES_MAX),
+        _ => 0,
+    }
+}
+
 /// The 9 bytes of a code structure.
 fn structure(code: &Code) -> Vec<u8> {
     let bits = code.prefix.len() as u8;

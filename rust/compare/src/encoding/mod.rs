@@ -8,15 +8,13 @@ use judge::{Coded, Reader, Refused};
 use scp::raw;
 
 use crate::calls::{hold, number, same, Difference};
-use crate::lent::{Lent, Space};
+use crate::guarded::{self, Right, ROOM};
+use crate::lent::Lent;
+use crate::rhythm::tables_in;
 use crate::tally::{Call, Tally};
 
 /// A lead of more samples times tables is encoded with fewer lengths, as the judge's search takes its time.
 const LONG: usize = 3000;
-/// Room that is always enough.
-const ROOM: usize = usize::MAX;
-/// The number of tables that names the default table.
-const DEFAULT: usize = 19_999;
 
 /// What is to be encoded.
 #[derive(Clone, Copy, Debug)]
@@ -47,34 +45,20 @@ pub fn compare(call: &ToEncode, rng: &mut Rng, tally: &mut Tally) -> Result<(), 
     hold(untouched, "scp_encode_lead: what is only read was changed")
 }
 
-/// Encodes with work space and output of just enough, one too few, no and far too many bytes, each with each; of a long lead
-/// some of these.
+/// Encodes with room of every kind of length; of a long lead with some of it.
 fn encode_with_every_length(job: Job, rng: &mut Rng, tally: &mut Tally) -> Result<(), Difference> {
     let work = job.samples.len() * tables_in(job.section2);
     let out = job.judged(ROOM, ROOM).map_or(0, |coded| coded.bytes.len());
-    let mut lengths = |enough: usize| {
-        let far = match rng.one_in(40) {
-            true => 8 * scp::SAMPLES_MAX + rng.small(3000),
-            false => enough + 100 + rng.small(3000),
-        };
-        let mut lengths = vec![enough, enough.saturating_sub(1), 0, far];
-        lengths.sort();
-        lengths.dedup();
-        lengths
-    };
     if work.max(job.samples.len()) > LONG {
         for (work, out) in [(work, out), (work, out.saturating_sub(1))] {
             encode(job, (work, out), rng, tally)?;
         }
         return encode(job, (work.saturating_sub(1), out), rng, tally);
     }
-    let (works, outs) = (lengths(work), lengths(out));
-    for &work in &works {
-        for &out in &outs {
-            encode(job, (work, out), rng, tally)?;
-        }
-    }
-    Ok(())
+    let most = scp::TABLES_MAX * scp::SAMPLES_MAX;
+    guarded::with_every_length((work, out), most, rng, |lengths, rng| {
+        encode(job, lengths, rng, tally)
+    })
 }
 
 /// Encodes with so many bytes of work space and of output.
@@ -118,46 +102,26 @@ impl Job<'_> {
     /// comes back to what is expected: the answer, the stream, and the work space cleared or untouched.
     pub fn by_library(
         &self,
-        (work_n, out_n): (usize, usize),
+        lengths: (usize, usize),
         expected: &Result<Coded, Refused>,
         rng: &mut Rng,
     ) -> Result<raw::ScpCoded, Difference> {
-        let mut work = Space::<u8>::new(work_n, rng);
-        let mut out = Space::<u8>::new(out_n, rng);
-        let (section2, samples) = (self.section2, self.samples);
-        let answer = raw::encode_lead(section2, samples, self.order, work.lent(), out.lent());
-        let call = format!("scp_encode_lead, work space of {work_n}, output of {out_n}");
-        let (right, stream): (_, &[u8]) = match expected {
-            Err(refused) => (
-                raw::ScpCoded {
-                    refusal: refused.number,
-                    ..Default::default()
-                },
-                &[],
-            ),
-            Ok(coded) => (
-                raw::ScpCoded {
-                    refusal: 0,
-                    bytes: coded.bytes.len() as u32,
-                    bits: coded.bits,
-                },
-                &coded.bytes,
-            ),
+        let (refusal, bits, out): (_, _, &[u8]) = match expected {
+            Err(refused) => (refused.number, 0, &[]),
+            Ok(coded) => (0, coded.bits, &coded.bytes),
         };
-        let asked = |holds, words: &str| hold(holds, &format!("{call}: {words}"));
-        asked(
-            answer == right,
-            &format!("the library answers {answer:?}, and right is {right:?}"),
-        )?;
-        asked(
-            out.holds(stream),
-            "the stream differs, or other bytes were changed",
-        )?;
-        match cleared(expected) {
-            true => asked(work.is_cleared(), "the work space is not zeros, all of it")?,
-            false => asked(work.is_untouched(), "the work space was changed")?,
-        }
-        Ok(answer)
+        let right = Right {
+            answer: raw::ScpCoded {
+                refusal,
+                bytes: out.len() as u32,
+                bits,
+            },
+            out,
+            cleared: cleared(expected),
+        };
+        guarded::call("scp_encode_lead", lengths, right, rng, |work, out| {
+            raw::encode_lead(self.section2, self.samples, self.order, work, out)
+        })
     }
 
     /// Asks that the judge's reader gives the samples back.
@@ -176,17 +140,6 @@ fn cleared(answer: &Result<Coded, Refused>) -> bool {
     match answer {
         Ok(coded) => coded.work_cleared,
         Err(refused) => refused.work_cleared,
-    }
-}
-
-/// How many tables the data of a Section 2 say that they have, where they may have so many.
-fn tables_in(section2: &[u8]) -> usize {
-    match section2 {
-        [low, high, ..] => match usize::from(u16::from_le_bytes([*low, *high])) {
-            DEFAULT => 1,
-            tables => tables.min(scp::TABLES_MAX),
-        },
-        _ => 0,
     }
 }
 

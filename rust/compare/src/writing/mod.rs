@@ -9,17 +9,15 @@ use judge::{Refused, Writing};
 use scp::raw;
 
 use crate::calls::{hold, number, same, Difference};
-use crate::lent::{Lent, Space};
+use crate::guarded::{self, Right, ROOM};
+use crate::lent::Lent;
+use crate::rhythm::tables_in;
 use counts::{Answer, Counts};
 
 /// A job of more samples times tables is done with fewer lengths, as the judge's search takes its time.
 const LONG: usize = 1000;
 /// A record of more bytes is written with fewer lengths.
 const LONG_RECORD: usize = 20_000;
-/// Room that is always enough.
-const ROOM: usize = usize::MAX;
-/// The number of tables that names the default table.
-const DEFAULT: usize = 19_999;
 
 /// Compares on `count` jobs that the seed fixes. The counts, or what differs first and in which job.
 pub fn run(seed: u64, count: u64) -> Result<Counts, String> {
@@ -63,8 +61,7 @@ pub fn compare(job: &ToWrite, rng: &mut Rng, counts: &mut Counts) -> Result<(), 
     hold(untouched, "scp_write_record: what is only read was changed")
 }
 
-/// Writes with work space and output of just enough, one too few, no and far too many bytes, each with each; of a long job
-/// those that are one too few.
+/// Writes with room of every kind of length; of a long job with some of it, which is one byte too little.
 fn write_with_every_length(
     job: &Writing,
     judged: &Result<Vec<u8>, Refused>,
@@ -77,23 +74,9 @@ fn write_with_every_length(
         write(job, (work, out.saturating_sub(1)), rng, counts)?;
         return write(job, (work.saturating_sub(1), out), rng, counts);
     }
-    let mut lengths = |enough: usize| {
-        let far = match rng.one_in(40) {
-            true => scp::RECORD_MAX + rng.small(3000),
-            false => enough + 100 + rng.small(3000),
-        };
-        let mut lengths = vec![enough, enough.saturating_sub(1), 0, far];
-        lengths.sort();
-        lengths.dedup();
-        lengths
-    };
-    let (works, outs) = (lengths(work), lengths(out));
-    for &work in &works {
-        for &out in &outs {
-            write(job, (work, out), rng, counts)?;
-        }
-    }
-    Ok(())
+    guarded::with_every_length((work, out), scp::RECORD_MAX, rng, |lengths, rng| {
+        write(job, lengths, rng, counts)
+    })
 }
 
 /// Writes with so many bytes of work space and of output.
@@ -113,49 +96,27 @@ pub fn write(
 /// to what is expected: the answer, the record, and the work space cleared or untouched.
 pub fn by_library(
     job: &Writing,
-    (work_n, out_n): (usize, usize),
+    lengths: (usize, usize),
     expected: &Result<Vec<u8>, Refused>,
     rng: &mut Rng,
 ) -> Result<(), Difference> {
-    let mut work = Space::<u8>::new(work_n, rng);
-    let mut out = Space::<u8>::new(out_n, rng);
-    let answer = raw::write_record(&job_of(job), work.lent(), out.lent());
-    let (right, record): (_, &[u8]) = match expected {
-        Err(refused) => (
-            raw::ScpWritten {
-                refusal: refused.number,
-                bytes: 0,
-            },
-            &[],
-        ),
-        Ok(record) => (
-            raw::ScpWritten {
-                refusal: 0,
-                bytes: record.len() as u32,
-            },
-            record,
-        ),
+    let (refusal, out, cleared): (_, &[u8], _) = match expected {
+        Err(refused) => (refused.number, &[], refused.work_cleared),
+        Ok(record) => (0, record, !job.section2.is_empty()),
     };
-    let asked = |holds, words: &str| {
-        let call = format!("scp_write_record, work space of {work_n}, output of {out_n}");
-        hold(holds, &format!("{call}: {words}"))
+    let right = Right {
+        answer: raw::ScpWritten {
+            refusal,
+            bytes: out.len() as u32,
+        },
+        out,
+        cleared,
     };
-    asked(
-        answer == right,
-        &format!("the library answers {answer:?}, and right is {right:?}"),
-    )?;
-    asked(
-        out.holds(record),
-        "the record differs, or other bytes were changed",
-    )?;
-    let cleared = match expected {
-        Ok(_) => !job.section2.is_empty(),
-        Err(refused) => refused.work_cleared,
-    };
-    match cleared {
-        true => asked(work.is_cleared(), "the work space is not zeros, all of it"),
-        false => asked(work.is_untouched(), "the work space was changed"),
-    }
+    let job = job_of(job);
+    guarded::call("scp_write_record", lengths, right, rng, |work, out| {
+        raw::write_record(&job, work, out)
+    })?;
+    Ok(())
 }
 
 /// The job as the library takes it.
@@ -235,15 +196,4 @@ fn wrapper(job: &Writing, judged: &Result<Vec<u8>, Refused>) -> Result<(), Diffe
 pub fn work_of(job: &Writing) -> usize {
     let longest = job.counts.iter().copied().max().unwrap_or(0) as usize;
     longest.min(scp::SAMPLES_MAX) * tables_in(job.section2)
-}
-
-/// How many tables the data of a Section 2 say that they have, where they may have so many.
-fn tables_in(section2: &[u8]) -> usize {
-    match section2 {
-        [low, high, ..] => match usize::from(u16::from_le_bytes([*low, *high])) {
-            DEFAULT => 1,
-            tables => tables.min(scp::TABLES_MAX),
-        },
-        _ => 0,
-    }
 }
