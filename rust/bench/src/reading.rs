@@ -3,7 +3,7 @@
 use std::hint::black_box;
 
 use compare::encoding::extremes::wave;
-use compare::rhythm::{remainder, switch, tables, value, DEFAULT_TABLE};
+use compare::rhythm::{remainder, tables, two_tables, value, DEFAULT_TABLE};
 use judge::make::Rng;
 use judge::Writing;
 use scp::SAMPLES_MAX;
@@ -147,27 +147,6 @@ fn assert_same(record: &[u8], place: usize, out: &mut [i16]) {
 }
 
 // ---- tables
-
-/// The two tables of EC71, C.2.7.3, which switch to each other.
-fn two_tables() -> Vec<u8> {
-    let one = vec![
-        value("0", 0),
-        value("100", 1),
-        value("101", -1),
-        value("1100", 2),
-        value("1101", -2),
-        switch("1110", 2),
-        remainder("1111", 8),
-    ];
-    let two = vec![
-        remainder("0", 8),
-        value("100", 0),
-        value("101", 1),
-        value("110", -1),
-        switch("111", 1),
-    ];
-    tables(&[one, two])
-}
 
 /// The default table as a table of the record's own.
 pub fn spelled_out() -> Vec<u8> {

@@ -60,6 +60,27 @@ pub fn tables(tables: &[Vec<Code>]) -> Vec<u8> {
     data
 }
 
+/// The two tables of EC71, C.2.7.3, which switch to each other, as Section 2's data.
+pub fn two_tables() -> Vec<u8> {
+    let one = vec![
+        value("0", 0),
+        value("100", 1),
+        value("101", -1),
+        value("1100", 2),
+        value("1101", -2),
+        switch("1110", 2),
+        remainder("1111", 8),
+    ];
+    let two = vec![
+        remainder("0", 8),
+        value("100", 0),
+        value("101", 1),
+        value("110", -1),
+        switch("111", 1),
+    ];
+    tables(&[one, two])
+}
+
 /// How many tables the data of a Section 2 say that they have, where they may have so many.
 pub fn tables_in(section2: &[u8]) -> usize {
     match *section2 {
