@@ -161,8 +161,19 @@ is_stale() { # FILE FOLDER...
     [ ! -e "$file" ] || [ -n "$(find "$@" -type f -newer "$file" -print -quit)" ]
 }
 
+# Prints what the library is made of, as seen from the repository's folder.
+library_sources() { ls -d crates.txt crates/*/src crates/*/specs crates/*/proofs 2>/dev/null; }
+
 # Proves the library and writes its archive.
 make_archive() {
     has_command rt || die "the library is to be proved, and the Rattle kit (rt) is not there"
     (cd "$top" && quietly archive.log rt staticlib scp)
+}
+
+# The same if the archive is not there or the library's sources are newer.
+renew_archive() {
+    # shellcheck disable=SC2046 # no blanks in these names
+    (cd "$top" && is_stale "$archive" $(library_sources)) || return 0
+    say "proving and compiling the library; this takes some minutes, and is done once"
+    make_archive
 }
