@@ -8,6 +8,14 @@ use std::fmt;
 pub struct Refusal(u8);
 
 impl Refusal {
+    /// How many there are: their numbers are 1 to this.
+    pub const COUNT: u8 = 17;
+
+    /// All of them, by their numbers.
+    pub fn all() -> impl Iterator<Item = Refusal> {
+        (1..=Refusal::COUNT).map(Refusal)
+    }
+
     /// What a call's `refusal` says: accepted (0) with `answer`, or refused.
     pub(crate) fn or<T>(number: u8, answer: T) -> Result<T, Refusal> {
         match number {
@@ -16,7 +24,7 @@ impl Refusal {
         }
     }
 
-    /// The number of the rule, from 1 to 17.
+    /// The number of the rule, from 1 to [`COUNT`](Refusal::COUNT).
     pub fn number(self) -> u8 {
         self.0
     }
@@ -46,6 +54,18 @@ impl Refusal {
     }
 }
 
+impl TryFrom<u8> for Refusal {
+    type Error = NoRefusal;
+
+    /// The refusal that has a number.
+    fn try_from(number: u8) -> Result<Refusal, NoRefusal> {
+        match number {
+            1..=Refusal::COUNT => Ok(Refusal(number)),
+            _ => Err(NoRefusal(number)),
+        }
+    }
+}
+
 impl fmt::Display for Refusal {
     fn fmt(&self, f: &mut fmt::Formatter<'_>) -> fmt::Result {
         write!(f, "{}: {}", self.number(), self.words())
@@ -54,13 +74,31 @@ impl fmt::Display for Refusal {
 
 impl Error for Refusal {}
 
+/// A number that no refusal has.
+#[derive(Clone, Copy, Debug, PartialEq, Eq)]
+pub struct NoRefusal(u8);
+
+impl fmt::Display for NoRefusal {
+    fn fmt(&self, f: &mut fmt::Formatter<'_>) -> fmt::Result {
+        write!(
+            f,
+            "there is no refusal {}: they are 1 to {}",
+            self.0,
+            Refusal::COUNT
+        )
+    }
+}
+
+impl Error for NoRefusal {}
+
 #[cfg(test)]
 mod tests {
-    use super::Refusal;
+    use super::{NoRefusal, Refusal};
 
     #[test]
     fn every_row_has_words_of_its_own() {
-        let words: Vec<_> = (1..=17).map(|number| Refusal(number).words()).collect();
+        let words: Vec<_> = Refusal::all().map(Refusal::words).collect();
+        assert_eq!(words.len(), 17);
         for (place, one) in words.iter().enumerate() {
             assert!(!words[..place].contains(one), "{one}");
             assert_ne!(*one, Refusal(18).words());
@@ -71,5 +109,16 @@ mod tests {
     fn zero_is_no_refusal() {
         assert_eq!(Refusal::or(0, 'a'), Ok('a'));
         assert_eq!(Refusal::or(6, 'a'), Err(Refusal(6)));
+    }
+
+    #[test]
+    fn a_number_from_1_to_17_has_a_refusal() {
+        let made: Vec<_> = (0..=u8::MAX).flat_map(Refusal::try_from).collect();
+        assert_eq!(made, Refusal::all().collect::<Vec<_>>());
+        let numbers: Vec<_> = made.into_iter().map(Refusal::number).collect();
+        assert_eq!(numbers, (1..=17).collect::<Vec<_>>());
+        for number in [0, 18, 255] {
+            assert_eq!(Refusal::try_from(number), Err(NoRefusal(number)));
+        }
     }
 }

@@ -2,10 +2,10 @@
 
 use std::path::PathBuf;
 
+use clap::builder::TypedValueParser;
 use clap::{value_parser, Parser, Subcommand};
 use clap_complete::Shell;
-
-use crate::rules;
+use scp::Refusal;
 
 /// What every command's help ends with.
 const STATUS: &str = "\
@@ -60,8 +60,8 @@ const JOBS_MAX: i64 = 1024;
 #[command(disable_help_subcommand = true)]
 pub struct Cli {
     /// Say what refusal N means, in plain words and with an example
-    #[arg(long, value_name = "N", value_parser = value_parser!(u8).range(1..=rules::COUNT))]
-    pub explain: Option<u8>,
+    #[arg(long, value_name = "N", value_parser = refusal())]
+    pub explain: Option<Refusal>,
     /// What is to be done.
     #[command(subcommand)]
     pub command: Option<Command>,
@@ -240,6 +240,12 @@ pub enum Command {
         #[arg(value_name = "SHELL")]
         shell: Shell,
     },
+}
+
+/// A refusal, by its number.
+fn refusal() -> impl TypedValueParser<Value = Refusal> {
+    let numbers = 1..=i64::from(Refusal::COUNT);
+    value_parser!(u8).range(numbers).try_map(Refusal::try_from)
 }
 
 #[cfg(test)]

@@ -35,7 +35,7 @@ fn main() -> ExitCode {
     let mut output = Output::standard();
     let asked = Cli::parse();
     let status = match (asked.explain, asked.command) {
-        (Some(number), _) => rules::show(number, &mut output),
+        (Some(refusal), _) => rules::show(refusal, &mut output),
         (None, Some(command)) => run(command, &mut output),
         // the command line is not understood without either
         (None, None) => Status::NotDone,

@@ -1,10 +1,9 @@
 //! The refusals in plain words, with an example of each: what `--explain` shows.
 
+use scp::Refusal;
+
 use crate::output::Output;
 use crate::status::Status;
-
-/// How many refusals there are.
-pub const COUNT: i64 = 17;
 
 /// A refusal, for a person who meets it.
 struct Rule {
@@ -23,7 +22,7 @@ const LEADS: &str = "leads, samples, check, report and pack";
 const STREAMS: &str = "samples, check, report and pack, each lead by itself";
 
 /// The refusals from 1.
-const RULES: [Rule; COUNT as usize] = [
+const RULES: [Rule; Refusal::COUNT as usize] = [
     Rule {
         name: "length",
         words: "\
@@ -198,13 +197,14 @@ that fit 32 bits; or the samples are not as many as the leads count together.",
 ];
 
 /// What the rule of a refusal is about, in a word or two.
-pub fn name(number: u8) -> &'static str {
-    rule(number).map_or("", |rule| rule.name)
+pub fn name(refusal: Refusal) -> &'static str {
+    rule(refusal).map_or("", |rule| rule.name)
 }
 
 /// Shows a refusal in plain words.
-pub fn show(number: u8, output: &mut Output) -> Status {
-    if let Some(rule) = rule(number) {
+pub fn show(refusal: Refusal, output: &mut Output) -> Status {
+    if let Some(rule) = rule(refusal) {
+        let number = refusal.number();
         output.line(format_args!("Refusal {number}: {}", rule.name));
         output.block();
         output.line(rule.words);
@@ -216,8 +216,8 @@ pub fn show(number: u8, output: &mut Output) -> Status {
     Status::Accepted
 }
 
-fn rule(number: u8) -> Option<&'static Rule> {
-    RULES.get(usize::from(number).wrapping_sub(1))
+fn rule(refusal: Refusal) -> Option<&'static Rule> {
+    RULES.get(usize::from(refusal.number()) - 1)
 }
 
 #[cfg(test)]

@@ -15,7 +15,7 @@ use crate::status::Status;
 use crate::table::{self, numbers, words, Column};
 use crate::verdict::{Room, Verdict};
 
-/// The rules that are asked alone.
+/// So many rules are asked alone, from 1.
 const ALONE: u8 = 9;
 
 const RULES: [Column; 3] = [numbers("Rule"), words(""), words("Answer")];
@@ -30,7 +30,8 @@ const UNSEEN: &str = "nothing that could be pointed at, the bytes being as they 
 
 /// What the library says of a rule, asked alone.
 struct Answer {
-    number: u8,
+    /// The refusal of its rule.
+    refusal: Refusal,
     is_broken: bool,
     /// Whether every rule before it is kept.
     is_certain: bool,
@@ -70,8 +71,12 @@ pub fn run(file: &Path, json: bool, output: &mut Output) -> Status {
 }
 
 impl Answer {
+    fn number(&self) -> u8 {
+        self.refusal.number()
+    }
+
     fn name(&self) -> &'static str {
-        rules::name(self.number)
+        rules::name(self.refusal)
     }
 
     /// The answer in words.
@@ -81,6 +86,17 @@ impl Answer {
             true => answer.to_string(),
             false => format!("{answer}, as it seems"),
         }
+    }
+
+    /// Shows the rule, where it is broken, and what was found.
+    fn show(&self, output: &mut Output) {
+        output.block();
+        let (number, name, words) = (self.number(), self.name(), self.words());
+        output.line(format_args!("Rule {number}, {name}: {words}"));
+        output.lines(match self.is_certain {
+            true => refused::told(self.refusal, &self.found),
+            false => refused::found_lines(&self.found),
+        });
     }
 }
 
@@ -95,27 +111,27 @@ impl Read {
 
 /// Asks the rules one by one. Of a record that is too long not all bytes were read, and the first alone is asked.
 fn answers(input: &Input) -> Vec<Answer> {
-    let last = match input.bytes.len() > scp::RECORD_MAX {
+    let rules = match input.bytes.len() > scp::RECORD_MAX {
         true => 1,
         false => ALONE,
     };
     let mut is_certain = true;
-    let ask = |number| {
-        let is_broken = scp::breaks(&input.bytes, number);
+    let ask = |refusal: Refusal| {
+        let is_broken = scp::breaks(&input.bytes, refusal.number());
         let looked = Looked::at(input, 1);
         let answer = Answer {
-            number,
+            refusal,
             is_broken,
             is_certain,
             found: match is_broken {
-                true => explain::found_or(&looked, number, UNSEEN),
+                true => explain::found_or(&looked, refusal, UNSEEN),
                 false => Vec::new(),
             },
         };
         is_certain &= !is_broken;
         answer
     };
-    (1..=last).map(ask).collect()
+    Refusal::all().take(rules.into()).map(ask).collect()
 }
 
 /// Reads every lead, if the record has leads that can be asked for.
@@ -145,7 +161,7 @@ impl<'a> Report<'a> {
     fn caution(&self) -> Option<String> {
         let first = self.answers.iter().find(|answer| answer.is_broken)?;
         let last = self.answers.last().filter(|last| !last.is_certain)?;
-        let (broken, from, to) = (first.number, first.number + 1, last.number);
+        let (broken, from, to) = (first.number(), first.number() + 1, last.number());
         let rules = match from == to {
             true => format!("Rule {to} was"),
             false => format!("Rules {from} to {to} were"),
@@ -168,7 +184,7 @@ impl<'a> Report<'a> {
         let rows: Vec<_> = self.answers.iter().map(rule_row).collect();
         output.lines(table::lines(&RULES, &rows));
         for answer in self.answers.iter().filter(|answer| answer.is_broken) {
-            self.show_broken(answer, output);
+            answer.show(output);
         }
         self.show_leads(output);
         if let Some(caution) = self.caution() {
@@ -179,24 +195,6 @@ impl<'a> Report<'a> {
             output.block();
             output.line(note);
         }
-    }
-
-    /// Shows a rule that is broken, and what was found.
-    fn show_broken(&self, answer: &Answer, output: &mut Output) {
-        output.block();
-        output.line(format_args!(
-            "Rule {}, {}: {}",
-            answer.number,
-            answer.name(),
-            answer.words()
-        ));
-        let lines = match self.verdict {
-            Verdict::Refused { refusal, .. } if answer.is_certain => {
-                refused::told(refusal, &answer.found)
-            }
-            _ => refused::found_lines(&answer.found),
-        };
-        output.lines(lines);
     }
 
     /// Shows what reading each lead answers, or why none is read.
@@ -240,7 +238,7 @@ impl<'a> Report<'a> {
             Verdict::Accepted { .. } => Vec::new(),
         };
         let rule = |answer: &Answer| json::Rule {
-            number: answer.number,
+            number: answer.number(),
             name: answer.name(),
             broken: answer.is_broken,
             certain: answer.is_certain,
@@ -263,7 +261,7 @@ impl<'a> Report<'a> {
 /// A rule's row of the table.
 fn rule_row(answer: &Answer) -> [String; 3] {
     let name = answer.name().to_string();
-    [answer.number.to_string(), name, answer.words()]
+    [answer.number().to_string(), name, answer.words()]
 }
 
 /// A lead's row of the table.

@@ -70,12 +70,12 @@ const ROWS: [Look; 14] = [
 
 /// What was found in a record that was refused, a line for each thing; at least one.
 pub fn found(looked: &Looked, refusal: Refusal) -> Vec<String> {
-    found_or(looked, refusal.number(), NOTHING)
+    found_or(looked, refusal, NOTHING)
 }
 
-/// What was found in a record that breaks a rule, asked alone; these words if there is nothing to be seen.
-pub fn found_or(looked: &Looked, number: u8, nothing: &str) -> Vec<String> {
-    let row = usize::from(number).wrapping_sub(1);
+/// What was found in a record that breaks a refusal's rule, asked alone; these words if there is nothing to be seen.
+pub fn found_or(looked: &Looked, refusal: Refusal, nothing: &str) -> Vec<String> {
+    let row = usize::from(refusal.number()) - 1;
     let found = ROWS.get(row).map_or_else(Vec::new, |look| look(looked));
     if found.is_empty() {
         return vec![nothing.to_string()];
