@@ -5,6 +5,7 @@
 
 use std::ffi::{c_char, c_int, c_long, c_void, CStr, CString};
 use std::hint::black_box;
+use std::iter::once;
 use std::mem::transmute_copy;
 use std::os::unix::ffi::OsStrExt;
 use std::path::{Path, PathBuf};
@@ -12,39 +13,64 @@ use std::ptr::null_mut;
 use std::{fs, io};
 
 use compare::rhythm::DEFAULT_TABLE;
+use scp::Pointer;
 
-use crate::measure::Table;
+use crate::measure::{Clock, Side, Table};
+use crate::plain::Crc;
 use crate::reading::{by_library, record_of};
 use crate::scratch::Scratch;
 
 const LEADS: usize = 12;
 const COUNT: usize = 5000;
 
-/// A file read, the record opened and all its leads read. biosig gives microvolts, and the record's step is five.
+const WHOLE: &str = "file, open, check and all 12 leads, beside biosig";
+const DECODING: &str = "  the leads' decoding alone, checks aside";
+const AMOUNT: (usize, &str) = (LEADS * COUNT, "Msamples");
+
+/// Both lines, or why they are left out.
 pub fn all(table: &mut Table) {
-    const NAME: &str = "file, open, check and all 12 leads, beside biosig";
     let Some(biosig) = Biosig::find() else {
-        return table.left_out(NAME, "there is no libbiosig.so.3");
+        return left_out(table, "there is no libbiosig.so.3");
     };
-    let (_scratch, file) = match written() {
-        Ok(written) => written,
-        Err(error) => return table.left_out(NAME, &format!("the file is not written: {error}")),
-    };
+    match written() {
+        Ok((_scratch, file)) => beside(table, &biosig, &file),
+        Err(error) => left_out(table, &format!("the file is not written: {error}")),
+    }
+}
+
+fn left_out(table: &mut Table, why: &str) {
+    for name in [WHOLE, DECODING] {
+        table.left_out(name, why);
+    }
+}
+
+/// A file read, the record opened and all its leads read; then the reading of the leads without what checking takes. biosig's
+/// calls do not come apart, so that its side has the file and the header in it all the same. It gives microvolts, and the
+/// record's step is five.
+fn beside(table: &mut Table, biosig: &Biosig, file: &Path) {
     let name = CString::new(file.as_os_str().as_bytes()).expect("a name has no 0 in it");
+    let record = fs::read(file).expect("it was written");
     let mut samples = vec![0; LEADS * COUNT];
     let mut microvolts = vec![0.0; LEADS * COUNT];
-    by_file(&file, &mut samples);
+    by_file(file, &mut samples);
     assert_eq!(biosig.read(&name, &mut microvolts), Some(COUNT));
     let is_same = |(&sample, &value): (&i16, &f64)| f64::from(sample) * 5.0 == value;
     assert!(samples.iter().zip(&microvolts).all(is_same));
+    let mut by_biosig = || {
+        black_box(biosig.read(black_box(&name), &mut microvolts));
+    };
     table.line(
-        NAME,
-        (LEADS * COUNT, "Msamples"),
-        || by_file(black_box(&file), &mut samples),
-        || {
-            black_box(biosig.read(black_box(&name), &mut microvolts));
-        },
+        WHOLE,
+        AMOUNT,
+        || by_file(black_box(file), &mut samples),
+        &mut by_biosig,
     );
+    let checks = Checks::of(&record);
+    let sides = [
+        Side::new(|| read_leads(&record, &mut samples)).without(|| judge_leads(&record)),
+        Side::new(&mut by_biosig).without(|| assert!(checks.make())),
+    ];
+    table.line_by(Clock::Thread, DECODING, AMOUNT, sides);
 }
 
 /// The record as a file, in a folder that goes with it.
@@ -59,8 +85,55 @@ fn written() -> io::Result<(Scratch, PathBuf)> {
 fn by_file(file: &Path, samples: &mut [i16]) {
     let record = fs::read(file).expect("it was written");
     drop(black_box(scp::open(&record)));
-    for (place, lead) in samples.chunks_mut(COUNT).enumerate() {
-        by_library(&record, place + 1, lead);
+    read_leads(&record, samples);
+}
+
+/// Has the library read the leads. Each call judges the whole record first.
+fn read_leads(record: &[u8], samples: &mut [i16]) {
+    for (place, lead) in (1..).zip(samples.chunks_mut(COUNT)) {
+        by_library(record, place, lead);
+    }
+}
+
+/// Has the library judge the record as often as reading the leads does, and decode nothing. `scp_lead` judges by the very call
+/// that `scp_read_lead` starts with, rules 1 to 10. Beside it one compares the room lent with the lead's length, and the other
+/// shows a few numbers: nothing that counts here.
+fn judge_leads(record: &[u8]) {
+    for place in 1..=LEADS {
+        let _ = black_box(scp::lead(black_box(record), place));
+    }
+}
+
+/// The checks that biosig makes when it opens this record, by a loop with a table: its own cannot be left out. They are those
+/// of the record and of every section but Section 0, as a debugger shows at its check.
+struct Checks<'a> {
+    crc: Crc,
+    /// What is checked, each with its check before it.
+    parts: Vec<&'a [u8]>,
+}
+
+impl<'a> Checks<'a> {
+    fn of(record: &'a [u8]) -> Checks<'a> {
+        let pointers = scp::open(record).expect("it is sound");
+        let sections = pointers
+            .iter()
+            .filter(|one| one.id != 0 && one.is_present());
+        let section = |one: &Pointer| &record[one.index as usize - 1..][..one.length as usize];
+        let checks = Checks {
+            crc: Crc::new(),
+            parts: once(record).chain(sections.map(section)).collect(),
+        };
+        assert!(checks.make());
+        checks
+    }
+
+    /// Whether all checks are right.
+    fn make(&self) -> bool {
+        let is_right = |part: &&[u8]| {
+            let (stored, bytes) = part.split_at(2);
+            self.crc.of(black_box(bytes)).to_le_bytes() == stored
+        };
+        self.parts.iter().all(is_right)
     }
 }
 

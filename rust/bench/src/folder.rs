@@ -6,7 +6,7 @@ use std::{fs, io};
 
 use compare::rhythm::DEFAULT_TABLE;
 
-use crate::measure::{Clock, Table};
+use crate::measure::{Clock, Side, Table};
 use crate::reading::record_of;
 use crate::scratch::Scratch;
 
@@ -29,8 +29,7 @@ pub fn all(table: &mut Table, tool: &[String]) {
         Clock::Wall,
         NAME,
         (RECORDS * LEADS * COUNT, "Msamples"),
-        || assert!(check("2")),
-        || assert!(check("1")),
+        ["2", "1"].map(|jobs| Side::new(move || assert!(check(jobs)))),
     );
 }
 

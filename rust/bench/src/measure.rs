@@ -5,9 +5,9 @@
 
 use std::ffi::{c_int, c_long};
 
-/// A side works at least so many seconds in a round, over and over if need be.
+/// Work lasts at least so many seconds in a round, over and over if need be.
 const ROUND: f64 = 0.002;
-/// Where the two sides together take more seconds than this for the work once, there are few rounds.
+/// Where all of a line takes more seconds than this for the work once, there are few rounds.
 const LONG: f64 = 0.2;
 const FEW: usize = 5;
 
@@ -35,8 +35,7 @@ impl Table {
         Table { rounds }
     }
 
-    /// Measures the library and plain Rust in turns, and shows the median time that each takes for the work once, their
-    /// ratio (over 1: the library takes longer), and how much of some unit the library does in a second.
+    /// Measures the library and plain Rust by the processor's time.
     pub fn line(
         &mut self,
         name: &str,
@@ -44,30 +43,29 @@ impl Table {
         library: impl FnMut(),
         plain: impl FnMut(),
     ) {
-        self.line_by(Clock::Thread, name, amount, library, plain);
+        let sides = [Side::new(library), Side::new(plain)];
+        self.line_by(Clock::Thread, name, amount, sides);
     }
 
-    /// The same by a clock.
+    /// Measures the library's side and the plain one in turns, and shows the time that each takes for the work once, their
+    /// ratio (over 1: the library takes longer), and how much of some unit the library does in a second.
     pub fn line_by(
         &mut self,
         clock: Clock,
         name: &str,
         (amount, unit): (usize, &str),
-        mut library: impl FnMut(),
-        mut plain: impl FnMut(),
+        mut sides: [Side; 2],
     ) {
-        let (times, once) = times_a_round(clock, &mut library);
-        let (plain_times, plain_once) = times_a_round(clock, &mut plain);
-        let number = match once + plain_once > LONG {
+        let mut works: Vec<&mut Work> = sides.iter_mut().flat_map(Side::works).collect();
+        let once: f64 = works.iter_mut().map(|work| work.warm_up(clock)).sum();
+        let number = match once > LONG {
             true => self.rounds.min(FEW),
             false => self.rounds,
         };
-        let mut rounds = [Vec::new(), Vec::new()];
         for _ in 0..number {
-            rounds[0].push(time(clock, &mut library, times));
-            rounds[1].push(time(clock, &mut plain, plain_times));
+            works.iter_mut().for_each(|work| work.round(clock));
         }
-        let [library, plain] = rounds.map(median);
+        let [library, plain] = sides.map(Side::seconds);
         println!(
             "{name:<50} {:>11} {:>11} {:>7.2}  {:.1} {unit}/s",
             shown(library),
@@ -83,23 +81,80 @@ impl Table {
     }
 }
 
-/// How often the work is done in a round, and the seconds that it takes once; it is warm after that.
-fn times_a_round(clock: Clock, work: &mut impl FnMut()) -> (u32, f64) {
-    let mut times = 1;
-    loop {
-        let once = time(clock, work, times);
-        if once * f64::from(times) >= ROUND {
-            return (times, once);
+/// A side of a line: work, and what is taken away from its time.
+pub struct Side<'a> {
+    work: Work<'a>,
+    aside: Option<Work<'a>>,
+}
+
+impl<'a> Side<'a> {
+    /// All of the work.
+    pub fn new(work: impl FnMut() + 'a) -> Side<'a> {
+        Side {
+            work: Work::new(work),
+            aside: None,
         }
-        times *= 2;
+    }
+
+    /// The work without a part of it that cannot be left out, and is measured by itself.
+    pub fn without(self, aside: impl FnMut() + 'a) -> Side<'a> {
+        Side {
+            aside: Some(Work::new(aside)),
+            ..self
+        }
+    }
+
+    fn works(&mut self) -> impl Iterator<Item = &mut Work<'a>> {
+        std::iter::once(&mut self.work).chain(&mut self.aside)
+    }
+
+    /// The median of what the work takes once, less that of what is taken away.
+    fn seconds(self) -> f64 {
+        median(self.work.seconds) - self.aside.map_or(0.0, |aside| median(aside.seconds))
     }
 }
 
-/// The seconds that the work takes once, if it is done so many times.
-fn time(clock: Clock, work: &mut impl FnMut(), times: u32) -> f64 {
-    let start = now(clock);
-    (0..times).for_each(|_| work());
-    (now(clock) - start) / f64::from(times)
+/// Work that is measured in rounds.
+struct Work<'a> {
+    work: Box<dyn FnMut() + 'a>,
+    /// How often it is done in a round.
+    times: u32,
+    /// The seconds that it took once, of each round.
+    seconds: Vec<f64>,
+}
+
+impl<'a> Work<'a> {
+    fn new(work: impl FnMut() + 'a) -> Work<'a> {
+        Work {
+            work: Box::new(work),
+            times: 1,
+            seconds: Vec::new(),
+        }
+    }
+
+    /// Finds how often the work is to be done in a round; the seconds that it takes once.
+    fn warm_up(&mut self, clock: Clock) -> f64 {
+        loop {
+            let once = self.time(clock);
+            if once * f64::from(self.times) >= ROUND {
+                return once;
+            }
+            self.times *= 2;
+        }
+    }
+
+    /// Measures a round.
+    fn round(&mut self, clock: Clock) {
+        let once = self.time(clock);
+        self.seconds.push(once);
+    }
+
+    /// The seconds that the work takes once, if it is done as often as in a round.
+    fn time(&mut self, clock: Clock) -> f64 {
+        let start = now(clock);
+        (0..self.times).for_each(|_| (self.work)());
+        (now(clock) - start) / f64::from(self.times)
+    }
 }
 
 /// `struct timespec` of C, on a Linux of 64 bits.
