@@ -14,7 +14,8 @@ const RECORDS: usize = 2000;
 const LEADS: usize = 12;
 const COUNT: usize = 500;
 
-/// 2,000 records of 12 x 500 samples, by two jobs and by one. The tool is run as a process, by these words.
+/// 2,000 records of 12 x 500 samples, by two jobs and by one: the time that passes from the start of the tool's process, which
+/// is run by these words, to its end. The files were read before, and are read from memory.
 pub fn all(table: &mut Table, tool: &[String]) {
     const NAME: &str = "check of 2,000 records, 2 jobs beside 1";
     let scratch = match filled() {
