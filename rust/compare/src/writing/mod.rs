@@ -160,28 +160,42 @@ pub fn read_back(job: &Writing, record: &[u8], counts: &mut Counts) -> Result<()
     for (at, &count) in job.counts.iter().enumerate() {
         let (lead, others) = samples.split_at(count as usize);
         samples = others;
-        let said = |refusal| format!("lead {}: {refusal}", at + 1);
-        let entry = scp::lead(record, at + 1).map_err(said)?;
-        let (read, back) = scp::samples(record, at + 1).map_err(said)?;
-        let right = scp::Lead {
-            id: job.ids[at],
-            flags: job.flags & 0xFE,
-            step: job.step,
-            interval: job.interval,
-            first: job.firsts[at],
-            count: lead.len(),
-        };
-        same(&format!("lead {}", at + 1), read, right)?;
-        let last = job.firsts[at] + (count - 1);
-        let said = (entry.order, entry.last, entry.leads);
-        same("entry", said, (job.order, last, job.ids.len()))?;
-        hold(back == lead, "samples: not those that were to be written")?;
+        lead_read_back(job, record, at, lead)
+            .map_err(|difference| format!("lead {}: {difference}", at + 1))?;
     }
     counts.written += 1;
     counts.bytes += record.len() as u64;
     counts.leads += job.ids.len() as u64;
     counts.samples += job.samples.len() as u64;
     Ok(())
+}
+
+/// The same of one lead, at its place from 0.
+fn lead_read_back(
+    job: &Writing,
+    record: &[u8],
+    at: usize,
+    samples: &[i16],
+) -> Result<(), Difference> {
+    let refused = |refusal: scp::Refusal| refusal.to_string();
+    let entry = scp::lead(record, at + 1).map_err(refused)?;
+    let (read, back) = scp::samples(record, at + 1).map_err(refused)?;
+    let right = scp::Lead {
+        id: job.ids[at],
+        flags: job.flags & 0xFE,
+        step: job.step,
+        interval: job.interval,
+        first: job.firsts[at],
+        count: samples.len(),
+    };
+    same("read", read, right)?;
+    let last = job.firsts[at] + (job.counts[at] - 1);
+    let said = (entry.order, entry.last, entry.leads);
+    same("entry", said, (job.order, last, job.ids.len()))?;
+    hold(
+        back == samples,
+        "samples: not those that were to be written",
+    )
 }
 
 /// The safe wrapper says the same as the judge.
