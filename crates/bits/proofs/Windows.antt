@@ -9,7 +9,7 @@ use borrow.Author.Tests.{eq-eqb, ne-eqb}
 use lib.Dec.{eqb}
 use lib.ListN.{length, getD, take, drop, replicate, length-take, length-drop, take-append-drop}
 use lib.Pow.{high, low, field, shr-shr, shl-shr}
-use lib.Seq.{drop-cons, drop-drop, drop-nil, drop-append-add, drop-append-le}
+use lib.Seq.{drop-at, drop-cons, drop-drop, drop-nil, drop-append-add, drop-append-le}
 use lib.Seq.{take-append-add, take-append-le, take-append-seam, length-take-le}
 use Rattle.bits.specs.Bits.{highFirst, lowFirst, bitsIn, numberAfter, numberOf, begins}
 use Rattle.bits.specs.InnerWindow.{Window, turned}
@@ -38,13 +38,23 @@ byte-more s j j′ a b m n ej em h eb hb =
     ∙ number-append a (highFirst 8 b) (take n rest)
     ∙ ap (λ (x : ℕ). numberAfter x (take n rest)) own)
 
--- zeros behind bytes are what stands past their end
-pub zeros-behind : (s : List ℕ) (n j : ℕ) → getD (s ++ replicate n 0) j 0 ≡ getD s j 0
-zeros-behind [] zero j = refl
-zeros-behind [] (suc n) zero = refl
-zeros-behind [] (suc n) (suc j) = zeros-behind [] n j
-zeros-behind (b ∷ s) n zero = refl
-zeros-behind (b ∷ s) n (suc j) = zeros-behind s n j
+-- bits that are 0 are the number 0
+zeros-none : (n m : ℕ) → numberOf (take m (replicate n 0)) ≡ 0
+unfolding numberAfter
+zeros-none n zero = refl
+zeros-none zero (suc m) = refl
+zeros-none (suc n) (suc m) = zeros-none n m
+
+-- the zeros behind bytes move up the number w that they are read on after
+pub zeros-after : (s : List ℕ) (w m : ℕ) → m ≤ 64 → numberAfter w (take m (drop (length s * 8) (bitsIn (s ++ replicate 8 0)))) ≡ w * 2 ^ m
+unfolding bitsIn highFirst
+zeros-after s w m h =
+    let zeros : List ℕ = replicate 8 0 in
+    let e : drop (length s * 8) (bitsIn (s ++ zeros)) ≡ bitsIn zeros =
+    bitsIn-drop (length s) (s ++ zeros) ∙ ap bitsIn (drop-at s zeros (length s) refl) in
+    let bits : List ℕ = replicate 64 0 in
+    let long : length (take m bits) ≡ m = length-take-le m bits (omega arith) in
+    rw e (number-after w (take m bits) ∙ rw (long, zeros-none 64 m) (omega arith))
 
 -- bytes behind the last leave the bits before them as they are
 pub bits-before : (s t : List ℕ) (at k : ℕ) → at + k ≤ length (bitsIn s)

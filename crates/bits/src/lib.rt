@@ -29,18 +29,23 @@ fn word(s: &[u8], i: usize) -> u64
         + wide(s[i]) * 72057594037927936
 }
 
-// The same near the end of the bytes, zeros standing for those that are not there.
+// The same near the end of the bytes, zeros standing for those that are not there. The loop is over those that are there, so that the
+// compiler cannot write it out, and finds the window small enough to put into its callers.
 fn last_word(s: &[u8], i: usize) -> u64
-    requires { ⌜ i ≤ length (now s) ⌝ }
+    requires { ⌜ (i ≤ length (now s)) × (length (now s) < i + 8) ⌝ }
     ensures { λ r. ⌜ r ≡ numberOf (take 64 (drop (i * 8) (bitsIn (now (s .entry) ++ replicate 8 0)))) ⌝ }
 {
+    let n = s.len();
     let mut w: u64 = 0;
-    let mut k: usize = 0;
-    while k < 8 {
-        w = w * 256 + wire::byte(s, i + k) as u64;
+    let mut k = i;
+    while k < n {
+        w = w * 256 + wide(s[k]);
         k += 1;
     }
-    w
+    if n == i {
+        return 0;
+    }
+    w << ((i + 8 - n) * 8)
 }
 
 // The window on the stream from bit `at` on.

@@ -9,8 +9,15 @@ use lib.Pow.{high, low, field, shr-shr, mod-mod-pow}
 use lib.Seq.{take-append-add}
 use Rattle.bits.specs.Bits.{highFirst, bitsIn, numberAfter, numberOf}
 use Rattle.bits.proofs.Laws.{Small, small-take, small-drop, length-highFirst, number-append, number-high, own-bits}
-use Rattle.bits.proofs.Windows.{zeros-behind}
 use Rattle.packing.specs.Packing.{packedIn, packed, bytesFor}
+
+-- zeros behind bits or bytes are what stands past their end
+pub zeros-behind : (s : List ℕ) (n j : ℕ) → getD (s ++ replicate n 0) j 0 ≡ getD s j 0
+zeros-behind [] zero j = refl
+zeros-behind [] (suc n) zero = refl
+zeros-behind [] (suc n) (suc j) = zeros-behind [] n j
+zeros-behind (b ∷ s) n zero = refl
+zeros-behind (b ∷ s) n (suc j) = zeros-behind s n j
 
 -- the lowest bits of a number are those of its remainder
 pub high-low : (w m x : ℕ) → w ≤ m → highFirst w (x % 2 ^ m) ≡ highFirst w x
