@@ -131,15 +131,32 @@ fn nearest(tab: &[u32], t: usize, v: usize) -> usize
     best
 }
 
-// Nothing is known yet of the small values' structures.
+// Nothing is known yet of the structures of the values from -128 to 127.
 fn unknown() -> [u8; 2048]
     ensures { λ r. ⌜ ((tab : List ℕ) → Known tab r) ⌝ }
 {
     [255; 2048]
 }
 
-// The same, found once for each table and each value from -128 to 127: 256 places a table, and above 64 where it is not known yet.
-fn near(tab: &[u32], t: usize, v: usize, known: &mut [u8]) -> usize
+// What is known of the value's structure of table t, without looking for it: 256 places a table, one for each value from -128 to 127.
+// Above 64 where it is not known yet, and for any other value.
+fn recall(t: usize, v: usize, known: &[u8]) -> usize
+    requires { ⌜ (1 ≤ t) × (t ≤ 8) × (length (now known) ≡ 2048) ⌝ }
+    ensures { λ r. ⌜ ((tab : List ℕ) → Known tab (now (known .entry)) → r ≤ 64 → IsNearest tab t v r) ⌝ }
+{
+    if v < 130944 {
+        return 255;
+    }
+    let d = v - 130944;
+    if 256 <= d {
+        return 255;
+    }
+    known[(t - 1) * 256 + d] as usize
+}
+
+// The value's structure of table t, looked for, and known from then on if the value is one from -128 to 127. Apart from `recall`, so
+// that what is done once for a value stays out of the way of what is done for every sample.
+fn learn(tab: &[u32], t: usize, v: usize, known: &mut [u8]) -> usize
     requires { ⌜ Within (now tab) t × Known (now tab) (now known) ⌝ }
     ensures { λ r. ⌜ IsNearest (now (tab .entry)) t v r × Known (now (tab .entry)) (now (known .exit)) ⌝ }
 {
@@ -150,13 +167,8 @@ fn near(tab: &[u32], t: usize, v: usize, known: &mut [u8]) -> usize
     if 256 <= d {
         return nearest(tab, t, v);
     }
-    let place = (t - 1) * 256 + d;
-    let found = known[place] as usize;
-    if found <= 64 {
-        return found;
-    }
     let k = nearest(tab, t, v);
-    known[place] = k as u8;
+    known[(t - 1) * 256 + d] = k as u8;
     k
 }
 
@@ -188,7 +200,10 @@ fn values(
     let mut cur = [NONE; 9];
     let mut t = 1;
     while t <= n {
-        let k = near(tab, t, v, known);
+        let mut k = recall(t, v, known);
+        if 64 < k {
+            k = learn(tab, t, v, known);
+        }
         cur[t] = value_cost(tab, t, k, next[t]);
         marks[t - 1] = k as u8;
         t += 1;
@@ -389,7 +404,10 @@ fn one_table(tab: &[u32], xs: &[i16], order: usize, work: &mut [u8]) -> usize
     while 0 < i {
         i -= 1;
         let v = samples::value_at(xs, order, i);
-        let k = near(tab, 1, v, &mut known);
+        let mut k = recall(1, v, &known);
+        if 64 < k {
+            k = learn(tab, 1, v, &mut known);
+        }
         cost = value_cost(tab, 1, k, cost);
         work[i] = k as u8;
     }

@@ -2,6 +2,7 @@
 use Prim.Native.Nat.{ℕ, suc, _+_, _-_, _*_, _≤_, _<_}
 use mathlib.Core.Path.{_≡_, refl, _∙_, subst}
 use mathlib.Core.List.{List, [], _∷_}
+use mathlib.Core.Logic.{⊎-elim}
 use native.Mathlib.Omega.{arith}
 use lib.ListN.{length, set, drop, replicate, length-set}
 use Rattle.samples.specs.Differences.{differences}
@@ -10,7 +11,7 @@ use Rattle.tables.specs.declared.Structure.{Structure}
 use Rattle.compiled.specs.InnerForm.{Ready}
 use Rattle.paths.specs.InnerPaths.{Exact}
 use Rattle.shortest.specs.InnerRule.{rule}
-use Rattle.search.specs.InnerSearch.{cap, at, Trail, Known}
+use Rattle.search.specs.InnerSearch.{cap, at, Trail, IsNearest, Known}
 use Rattle.search.proofs.Laws.{place-most}
 use Rattle.search.proofs.Layers.{zeros-exact, step-exact, step-trail, alone, one-layer, set-in, set-out}
 use Rattle.search.proofs.one_table.Statement.{statement}
@@ -49,49 +50,73 @@ sub-i c = omega arith
 value-at-requires : tie.Need-value-at-requires Inv-loop μ-loop
 value-at-requires c κs = omega arith
 
-slice-aggregate-near : tie.Need-slice-aggregate-near Inv-loop μ-loop
-slice-aggregate-near c = omega (arith, c .before .before .before .loop .inv .3 .room)
+slice-aggregate-recall : tie.Need-slice-aggregate-recall Inv-loop μ-loop
+slice-aggregate-recall c = omega (arith, c .before .before .before .loop .inv .3 .room)
 
-near-requires : tie.Need-near-requires Inv-loop μ-loop
-near-requires c κs = let p = c .before .before .before .before .before .before .before .pre in (((p .0 .0, p .0 .1), omega arith, omega arith), c .before .before .before .loop .inv .3)
+recall-requires : tie.Need-recall-requires Inv-loop μ-loop
+recall-requires c κs = (omega arith, omega arith, c .before .before .before .loop .inv .3 .room)
+
+slice-aggregate-learn : tie.Need-slice-aggregate-learn Inv-loop μ-loop
+slice-aggregate-learn c = omega (arith, c .before .before .before .before .before .before .loop .inv .3 .room)
+
+learn-requires : tie.Need-learn-requires Inv-loop μ-loop
+learn-requires c κs =
+    let p = c .before .before .before .before .before .before .before .before .before .before .pre in
+    (((p .0 .0, p .0 .1), omega arith, omega arith), c .before .before .before .before .before .before .loop .inv .3)
+
+-- the value's structure was known, or was looked for
+found : (c : tie.Joined1 Inv-loop μ-loop) → let a = c .before .before .before .before .before .before .before .before .before .args in
+    IsNearest (a .tab .now) 1 (c .before .before .before .value-at .result) (c .if1 .k) × Known (a .tab .now) (c .if1 .known)
+found c =
+    let tab = c .before .before .before .before .before .before .before .before .before .args .tab .now in
+    let K = c .before .before .before .before .before .loop .inv .3 in
+    ⊎-elim
+    (λ w. rw (w .4, w .5) (w .2 .ensures))
+    (λ w. rw (w .1, w .2) (c .before .recall .ensures tab K (omega (arith, w .0 .left)), K))
+    (c .if1 .came)
 
 value-cost-requires : tie.Need-value-cost-requires Inv-loop μ-loop
-value-cost-requires c κs = let p = c .before .before .before .before .before .before .before .before .before .pre in (((p .0 .0, p .0 .1), omega arith, omega arith), c .before .near .ensures .0 .1)
+value-cost-requires c κs =
+    let p = c .before .before .before .before .before .before .before .before .before .pre in
+    (((p .0 .0, p .0 .1), omega arith, omega arith), found c .0 .1)
 
 cast-work : tie.Need-cast-work Inv-loop μ-loop
 cast-work c =
-    let k = c .before .before .near in
-    omega (arith, place-most (c .before .before .before .before .before .before .before .before .before .before .pre .0 .1) 1 (k .result) (omega arith) (k .ensures .0 .1))
+    let p = c .before .before .before .before .before .before .before .before .before .before .before .pre in
+    omega (arith, place-most (p .0 .1) 1 (c .before .before .if1 .k) (omega arith) (found (c .before .before) .0 .1))
 
 slice-write-work : tie.Need-slice-write-work Inv-loop μ-loop
-slice-write-work c = omega (arith, c .before .before .before .before .before .before .loop .inv .1, c .before .before .before .before .before .before .before .before .before .before .pre .2)
+slice-write-work c =
+    let p = c .before .before .before .before .before .before .before .before .before .before .before .pre in
+    omega (arith, c .before .before .before .before .before .before .before .loop .inv .1, p .2)
 
 loop-less : tie.Need-loop-less Inv-loop μ-loop
 loop-less c = omega arith
 
 loop-again : tie.Need-loop-again Inv-loop μ-loop
 loop-again c =
-    let p = c .before .before .before .before .before .before .before .before .before .before .pre in
-    let a = c .before .before .before .before .before .before .before .before .before .before .args in
-    let l = c .before .before .before .before .before .before .loop in
-    let k = c .before .before .near in
-    let r = c .value-cost in
+    let p = c .before .before .before .before .before .before .before .before .before .before .before .pre in
+    let a = c .before .before .before .before .before .before .before .before .before .before .before .args in
+    let l = c .before .before .before .before .before .before .before .loop in
+    let k = c .before .before .if1 .k in
+    let K = found (c .before .before) in
+    let r = c .before .value-cost in
     let vs = differences (a .order) (a .xs .now) in
     let there : l .i - 1 < length vs = omega (arith, length-differences (a .order) (a .xs .now)) in
     let room : l .i - 1 < length (l .work) = omega (arith, l .inv .1, p .2) in
-    let marks : List ℕ = k .result ∷ [] in
-    let work = set (l .work) (l .i - 1) (k .result) in
-    let is = c .before .before .before .before .value-at .ensures .0 in
-    let new = set-in (l .work) (l .i - 1) (k .result) room in
-    let old = set-out (l .work) (l .i - 1) (k .result) room in (
+    let marks : List ℕ = k ∷ [] in
+    let work = set (l .work) (l .i - 1) k in
+    let is = c .before .before .before .before .before .value-at .ensures .0 in
+    let new = set-in (l .work) (l .i - 1) k room in
+    let old = set-out (l .work) (l .i - 1) k room in (
       omega arith,
       simp length-set (l .inv .1),
       r .ensures .2,
-      k .ensures .1,
+      K .1,
       λ tables ready e.
           let i = l .inv .4 tables ready e in
           let own =
-          one-layer ready e (p .1) _ (k .result) (l .cost) (r .result) (drop (l .i) vs) (i .0) (k .ensures .0) (r .ensures .0)
+          one-layer ready e (p .1) _ k (l .cost) (r .result) (drop (l .i) vs) (i .0) (K .0) (r .ensures .0)
           (r .ensures .1) (r .ensures .2) in (
             step-exact tables vs (l .work) work marks (alone (r .result)) 1 (l .i - 1) (l .i) _ e (omega arith) there is own new old (i .1),
             step-trail tables vs (l .work) work marks (alone (r .result)) 1 (l .i - 1) (l .i) _ e (omega arith) there is own new old (i .1),
@@ -121,8 +146,10 @@ one-table-spec =
     loop-holds
     sub-i
     value-at-requires
-    slice-aggregate-near
-    near-requires
+    slice-aggregate-recall
+    recall-requires
+    slice-aggregate-learn
+    learn-requires
     value-cost-requires
     cast-work
     slice-write-work

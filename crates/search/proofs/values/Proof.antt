@@ -2,11 +2,12 @@
 use Prim.Native.Nat.{ℕ, suc, _+_, _-_, _≤_, _<_}
 use mathlib.Core.Path.{_≡_, refl}
 use mathlib.Core.List.{List}
+use mathlib.Core.Logic.{⊎-elim}
 use native.Mathlib.Omega.{arith}
 use lib.ListN.{length, length-set, getD-replicate}
 use Rattle.tables.specs.declared.Structure.{Structure}
 use Rattle.compiled.specs.InnerForm.{Ready}
-use Rattle.search.specs.InnerSearch.{cap, at, Known, ValuedTo}
+use Rattle.search.specs.InnerSearch.{cap, at, IsNearest, Known, ValuedTo}
 use Rattle.search.proofs.Laws.{valued, valued-more, place-most, set-most}
 use Rattle.search.proofs.values.Statement.{statement}
 use Rattle.search.proofs.values.Tie as tie
@@ -32,10 +33,24 @@ loop-holds c =
       p .1,
     )
 
-near-requires : tie.Need-near-requires Inv-loop μ-loop
-near-requires c κs =
-    let p = c .before .before .before .before .before .before .pre in
-    (((p .0 .0, p .0 .1), omega arith, omega arith), c .before .before .loop .inv .7)
+recall-requires : tie.Need-recall-requires Inv-loop μ-loop
+recall-requires c κs = (omega arith, omega arith, c .before .before .loop .inv .7 .room)
+
+learn-requires : tie.Need-learn-requires Inv-loop μ-loop
+learn-requires c κs =
+    let p = c .before .before .before .before .before .before .before .before .before .pre in
+    (((p .0 .0, p .0 .1), omega arith, omega arith), c .before .before .before .before .before .loop .inv .7)
+
+-- the value's structure was known, or was looked for
+found : (c : tie.Joined1 Inv-loop μ-loop) → let a = c .before .before .before .before .before .before .before .before .args in
+    IsNearest (a .tab .now) (c .before .before .before .before .loop .t) (a .v) (c .if1 .k) × Known (a .tab .now) (c .if1 .known)
+found c =
+    let tab = c .before .before .before .before .before .before .before .before .args .tab .now in
+    let K = c .before .before .before .before .loop .inv .7 in
+    ⊎-elim
+    (λ w. rw (w .5, w .6) (w .2 .ensures))
+    (λ w. rw (w .1, w .2) (c .before .recall .ensures tab K (omega (arith, w .0 .left)), K))
+    (c .if1 .came)
 
 mul-value-cost : tie.Need-mul-value-cost Inv-loop μ-loop
 mul-value-cost c = omega arith
@@ -45,8 +60,8 @@ element-copy-out-value-cost c = omega arith
 
 value-cost-requires : tie.Need-value-cost-requires Inv-loop μ-loop
 value-cost-requires c κs =
-    let p = c .before .before .before .before .before .before .before .before .before .before .pre in
-    (((p .0 .0, p .0 .1), omega arith, omega arith), c .before .before .before .near .ensures .0 .1)
+    let p = c .before .before .before .before .before .before .before .before .before .pre in
+    (((p .0 .0, p .0 .1), omega arith, omega arith), found (c .before) .0 .1)
 
 mul-cur : tie.Need-mul-cur Inv-loop μ-loop
 mul-cur c = omega arith
@@ -57,8 +72,7 @@ array-write-cur c = omega arith
 cast-marks : tie.Need-cast-marks Inv-loop μ-loop
 cast-marks c =
     let p = c .before .before .before .before .before .before .before .before .before .before .before .pre in
-    let k = c .before .before .before .before .near in
-    omega (arith, place-most (p .0 .1) (c .before .before .before .before .before .before .before .loop .t) (k .result) (omega arith) (k .ensures .0 .1))
+    omega (arith, place-most (p .0 .1) (c .before .before .before .before .before .before .before .loop .t) (c .before .before .before .if1 .k) (omega arith) (found (c .before .before .before) .0 .1))
 
 sub-marks : tie.Need-sub-marks Inv-loop μ-loop
 sub-marks c = omega arith
@@ -76,8 +90,9 @@ loop-again : tie.Need-loop-again Inv-loop μ-loop
 loop-again c =
     let a = c .before .before .before .before .before .before .before .before .before .before .before .args in
     let l = c .before .before .before .before .before .before .before .loop in
-    let k = c .before .before .before .before .near in
-    let r = c .value-cost in (
+    let k = c .before .before .before .if1 .k in
+    let K = found (c .before .before .before) in
+    let r = c .before .value-cost in (
       omega arith,
       omega arith,
       l .inv .2,
@@ -85,11 +100,10 @@ loop-again c =
       simp length-set (l .inv .4),
       set-most (l .cur) (l .t) (r .result) (suc cap) (omega (arith, l .inv .4)) (r .ensures .2) (l .inv .5),
       λ tables ready.
-          valued-more tables (a .next .now) (l .marks) (l .cur) (a .v) (l .t) (k .result) (r .result) (omega arith)
+          valued-more tables (a .next .now) (l .marks) (l .cur) (a .v) (l .t) k (r .result) (omega arith)
           (omega (arith, l .inv .3)) (omega (arith, l .inv .4)) (l .inv .6 tables ready)
-          (valued ready (a .next .now) (a .v) (l .t) (k .result) (r .result) (omega arith) (k .ensures .0 .0 tables ready)
-          (r .ensures .0) (r .ensures .1)),
-      k .ensures .1,
+          (valued ready (a .next .now) (a .v) (l .t) k (r .result) (omega arith) (K .0 .0 tables ready) (r .ensures .0) (r .ensures .1)),
+      K .1,
     )
 
 same-length : tie.Need-same-length Inv-loop μ-loop
@@ -108,7 +122,8 @@ values-spec =
     Inv-loop
     μ-loop
     loop-holds
-    near-requires
+    recall-requires
+    learn-requires
     mul-value-cost
     element-copy-out-value-cost
     value-cost-requires
