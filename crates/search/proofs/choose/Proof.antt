@@ -5,7 +5,7 @@ use mathlib.Core.Logic.{⊎-elim}
 use native.Mathlib.Omega.{arith}
 use native.Mathlib.Nat.{le-antisymm}
 use Rattle.search.specs.InnerSearch.{countOf, at, Picked}
-use Rattle.search.proofs.Laws.{picked-start, picked-skip, picked-more}
+use Rattle.search.proofs.Choices.{picked-start, picked-skip, picked-more}
 use Rattle.search.proofs.choose.Statement.{statement}
 use Rattle.search.proofs.choose.Tie as tie
 

@@ -5,7 +5,7 @@ use mathlib.Core.Path.{_∙_}
 use native.Mathlib.Omega.{arith}
 use lib.ListN.{getD}
 use Rattle.search.specs.InnerSearch.{at}
-use Rattle.search.proofs.Layers.{layer-holds, place-valued, settled-first, picked-first}
+use Rattle.search.proofs.OneLayer.{layer-holds, place-valued, settled-first, picked-first}
 use borrow.Author.Needs.{needs}
 use Rattle.search.proofs.layer.Statement.{statement}
 use Rattle.search.proofs.layer.Tie as tie

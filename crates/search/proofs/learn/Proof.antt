@@ -1,6 +1,7 @@
 -- What was looked for is known from then on.
 use native.Mathlib.Omega.{arith}
-use Rattle.search.proofs.Laws.{place-most, known-more}
+use Rattle.search.proofs.Laws.{place-most}
+use Rattle.search.proofs.Served.{known-more}
 use borrow.Author.Needs.{needs}
 use Rattle.search.proofs.learn.Statement.{statement}
 use Rattle.search.proofs.learn.Tie as tie

@@ -3,7 +3,8 @@ use Prim.Native.Nat.{_+_, _-_, _≤_}
 use mathlib.Core.Path.{_≡_}
 use native.Mathlib.Omega.{arith}
 use lib.ListN.{length, length-set}
-use Rattle.search.proofs.Laws.{place-most, MarkedTo, marked-start, marked-more}
+use Rattle.search.proofs.Laws.{place-most}
+use Rattle.search.proofs.Choices.{MarkedTo, marked-start, marked-more}
 use Rattle.search.proofs.mark.Statement.{statement}
 use Rattle.search.proofs.mark.Tie as tie
 

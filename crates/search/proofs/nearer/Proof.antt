@@ -1,7 +1,7 @@
 -- By the tests: the first, a shorter code, a longer one, one as long.
 use mathlib.Core.Logic.{inr, ⊎-elim}
 use native.Mathlib.Omega.{arith}
-use Rattle.search.proofs.Laws.{served-first, served-shorter, served-longer, served-equal}
+use Rattle.search.proofs.Served.{served-first, served-shorter, served-longer, served-equal}
 use borrow.Author.Needs.{needs}
 use Rattle.search.proofs.nearer.Statement.{statement}
 use Rattle.search.proofs.nearer.Tie as tie

@@ -13,7 +13,8 @@ use Rattle.paths.specs.InnerPaths.{Kind, gives}
 use Rattle.paths.proofs.Layer.{value-start}
 use Rattle.shortest.specs.InnerRule.{kindOf, structureOf, rule}
 use Rattle.search.specs.InnerSearch.{countOf, Place, Served}
-use Rattle.search.proofs.Laws.{form-there, right-there, small-there, served-skip}
+use Rattle.search.proofs.Laws.{form-there, right-there, small-there}
+use Rattle.search.proofs.Served.{served-skip}
 use Rattle.search.proofs.nearest.Statement.{statement}
 use Rattle.search.proofs.nearest.Tie as tie
 

@@ -5,7 +5,7 @@ use mathlib.Core.Logic.{⊎-elim}
 use native.Mathlib.Omega.{arith}
 use native.Mathlib.Nat.{le-antisymm}
 use Rattle.search.specs.InnerSearch.{countOf, leapOf, LeastOf}
-use Rattle.search.proofs.Laws.{least-none, least-new, least-old}
+use Rattle.search.proofs.Settling.{least-none, least-new, least-old}
 use Rattle.search.proofs.relax.Statement.{statement}
 use Rattle.search.proofs.relax.Tie as tie
 

@@ -10,7 +10,7 @@ use Rattle.bits.specs.InnerRaised.{lower}
 use Rattle.tables.specs.declared.Structure.{Structure}
 use Rattle.compiled.specs.InnerForm.{Ready}
 use Rattle.search.specs.InnerSearch.{at, AllMet}
-use Rattle.search.proofs.Laws.{total, total-set, Quiet, quiet-none, quiet-more, quiet-all, set-less, met-set}
+use Rattle.search.proofs.Settling.{total, total-set, Quiet, quiet-none, quiet-more, quiet-all, set-less, met-set}
 use Rattle.search.proofs.settle.Statement.{statement}
 use Rattle.search.proofs.settle.Tie as tie
 

@@ -1,5 +1,5 @@
 -- By the law.
-use Rattle.search.proofs.Laws.{known-none}
+use Rattle.search.proofs.Served.{known-none}
 use Rattle.search.proofs.unknown.Statement.{statement}
 use Rattle.search.proofs.unknown.Tie as tie
 

@@ -8,7 +8,8 @@ use lib.ListN.{length, length-set, getD-replicate}
 use Rattle.tables.specs.declared.Structure.{Structure}
 use Rattle.compiled.specs.InnerForm.{Ready}
 use Rattle.search.specs.InnerSearch.{cap, at, IsNearest, Known, ValuedTo}
-use Rattle.search.proofs.Laws.{valued, valued-more, place-most, set-most}
+use Rattle.search.proofs.Laws.{place-most}
+use Rattle.search.proofs.Served.{valued, valued-more, set-most}
 use Rattle.search.proofs.values.Statement.{statement}
 use Rattle.search.proofs.values.Tie as tie
 
