@@ -8,7 +8,8 @@ use native.Mathlib.Omega.{arith}
 use native.Mathlib.Decide.{decLt}
 use borrow.Author.Tests.{le-leb, lt-ltb, eq-eqb, eqb-true, eqb-false}
 use lib.Dec.{eqb}
-use lib.ListN.{length, getD, List·getD-eq-default}
+use lib.ListN.{length, getD, take, List·getD-eq-default}
+use lib.Seq.{take-all}
 use lib.Pow.{pow-mono}
 use Rattle.bits.specs.Bits.{lowFirst}
 use Rattle.bits.specs.InnerWindow.{turned}
@@ -105,6 +106,11 @@ right-more m n c h right =
 pub held-ready : (tables : List (List Structure)) (tab : List ℕ) → Holding tables tab → (length tab ≡ 0 → ⊥) → Ready tables tab
 held-ready tables tab (inl ready) h = ready
 held-ready tables tab (inr empty) h = absurd (h (ap length (empty .1)))
+
+-- and tables that are said are held, where the numbers are lent whole
+pub ready-held : {given tables : List (List Structure)} {tab : List ℕ} {n : ℕ} → given ≡ tables → Ready tables tab → length tab ≡ n
+    → Holding given (take n tab)
+ready-held {tab = tab} {n = n} e ready h = rw (e, take-all n tab (omega arith)) (inl ready)
 
 module _ {tables : List (List Structure)} {tab : List ℕ} (held : Ready tables tab) (t : ℕ) (h : t < 8) where
   -- table t has as many structures as its count says

@@ -8,7 +8,7 @@ use native.Mathlib.Nat.{le-trans}
 use borrow.Author.Tests.{eq-eqb, ne-eqb, eqb-true}
 use borrow.Rule.Slice.PartMut.{putMid, drop-put}
 use lib.Dec.{eqb}
-use lib.ListN.{length, take, drop, replicate, length-append, length-drop, length-map}
+use lib.ListN.{length, take, drop, replicate, length-append, length-drop, length-map, drop-of-length-le}
 use lib.Seq.{drop-drop, drop-length, drop-at, take-at, length-take-le}
 use Rattle.wire.specs.Numbers.{bytesOf}
 use Rattle.wire.proofs.Laws.{length-bytesOf}
@@ -69,14 +69,11 @@ module _ (step interval order : ℕ) (sizes : List ℕ) (streams : List (List �
 
 -- ---- Section 2
 
-no-list : (l : List ℕ) → length l ≡ 0 → l ≡ []
-no-list [] e = refl
-no-list (x ∷ l) e = absurd (omega arith)
-
 module _ (version : ℕ) (s2 : List ℕ) (h : length s2 ≡ 0) where
   pub given-none : (part : List ℕ) → length part ≡ section2Size (length s2) → part ≡ section2Bytes version s2
   unfolding section2Bytes
-  given-none part e = rw (eq-eqb (length s2) 0 h) (no-list part (rw (eq-eqb (length s2) 0 h) at e))
+  given-none part e =
+      rw (eq-eqb (length s2) 0 h) (drop-of-length-le part {i = 0} (omega (arith, rw (eq-eqb (length s2) 0 h) at e)))
 
 module _ (version : ℕ) (s2 : List ℕ) (h : length s2 ≡ 0 → ⊥) where
   pub given-some : sectionBytes 2 version zeroReserved s2 ≡ section2Bytes version s2

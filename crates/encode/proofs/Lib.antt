@@ -1,3 +1,5 @@
-pub mod Steps
-pub mod Laws
+mod Steps
+mod Plain
+mod Found
+pub mod Asked
 pub mod Unique

@@ -284,12 +284,8 @@ pub going-end : {tab : List ℕ} {n : ℕ} {vs : List ℤ} {total : ℕ} {out₀
     → out′ ≡ packed bs ++ drop (bytesFor (length bs)) out₀
 going-end {out₀ = out₀} {out = out} {sink = sink} G none out′ put tables ready many bs h =
     let O = G .on tables ready many in
-    let whole : bs ≡ O .w = O .all bs h ∙ ap (λ (l : List ℕ). O .w ++ l) (empty (O .s) (omega (arith, O .rest))) ∙ append-nil (O .w) in
+    let whole : bs ≡ O .w = O .all bs h ∙ ap (λ (l : List ℕ). O .w ++ l) (drop-of-length-le (O .s) {i = 0} (omega (arith, O .rest))) ∙ append-nil (O .w) in
     let later : sink .at ≤ bytesFor (length bs) = omega (arith, holds-length out sink (O .w) (O .holds), ap length whole, O .holds .part) in
     let last : out′ ≡ packed bs ++ drop (length (packed bs)) out = put bs (rw whole (O .holds)) in
     let rest = rest-later (sink .at) (bytesFor (length bs)) out out₀ later (G .behind) in
     last ∙ rw (length-packed bs) (ap (λ (l : List ℕ). packed bs ++ l) rest)
-  where
-    empty : (l : List ℕ) → length l ≡ 0 → l ≡ []
-    empty [] e = refl
-    empty (b ∷ l) e = absurd (omega arith)

@@ -3,19 +3,17 @@ use Prim.Native.Nat.{ℕ, zero, suc, _+_, _-_, _≤_, _<_}
 use mathlib.Core.Path.{_≡_, refl, sym, ap, _∙_}
 use mathlib.Core.Bool.{Bool, true, false, cond, and-eq-true-iff}
 use mathlib.Core.List.{List, [], _∷_, _++_}
-use mathlib.Core.Logic.{inl}
 use native.Mathlib.Omega.{arith}
 use native.Mathlib.Numerals.{add-one}
 use lib.Dec.{leb}
 use lib.IntN.{ℤ, pos}
 use lib.ListN.{length, take, drop, set, replicate, take-append-drop}
-use lib.Seq.{take-all, drop-set-lt, drop-drop, take-suc-set}
+use lib.Seq.{drop-set-lt, drop-drop, take-suc-set}
 use borrow.Author.Tests.{leb-true}
 use Rattle.wire.proofs.Laws.{kept-first, unlike}
 use Rattle.wire.proofs.Tests.{same, differ}
 use Rattle.pointers.specs.Pointers.{present, sectionOf}
 use Rattle.tables.specs.Section2.{tablesIn}
-use Rattle.compiled.specs.InnerForm.{Ready, Holding}
 use Rattle.entries.specs.Leads.{firstSample}
 use Rattle.entries.proofs.Laws.{leads-right, lead-samples}
 use Rattle.rules.specs.Rules.{leadCountOf, beatSubtracted, beatSampleCount, leadRefusal}
@@ -51,13 +49,10 @@ zeros l n e h = e ∙ ap (λ (i : ℕ). replicate i (pos 0)) h
 
 -- ---- a lead's tables and its trace
 
--- numbers that say the tables of Section 2 hold those of the record
-pub tables-held : (r s tab : List ℕ) → present r 2 ≡ true → s ≡ sectionOf r 2 → Ready (tablesIn s 16) tab
-    → Holding (tablesOf r) (take 5128 tab)
+-- the record's tables are those of Section 2, where it is there
+pub tables-are : (r s : List ℕ) → present r 2 ≡ true → s ≡ sectionOf r 2 → tablesOf r ≡ tablesIn s 16
 unfolding tablesOf
-tables-held r s tab here e ready =
-    let whole : take 5128 tab ≡ tab = take-all 5128 tab (omega (arith, ready .room)) in
-    rw (here, ← e, whole) (inl ready)
+tables-are r s here e = rw (here, ← e)
 
 -- a number was found beside samples; with 0 they are those of the trace
 traced : (n : ℕ) (xs : List ℤ) (t : Trace) → n ≡ 0 → traceOf n xs ≡ t → rebuilt xs ≡ t

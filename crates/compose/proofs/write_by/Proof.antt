@@ -5,7 +5,7 @@ use borrow.Author.Needs.{needs}
 use lib.ListN.{length, take, replicate}
 use lib.Seq.{length-take-le}
 use Rattle.encode.specs.InnerEncode.{clearedIf}
-use Rattle.encode.proofs.Laws.{cleared-some, cleared-after}
+use Rattle.encode.proofs.Asked.{cleared-some, cleared-after}
 use Rattle.compose.proofs.write_by.Statement.{statement}
 use Rattle.compose.proofs.write_by.Tie as tie
 

@@ -6,7 +6,7 @@ use native.Mathlib.Nat.{mul-le-mul-right}
 use Rattle.wire.proofs.Tests.{kept, broken}
 use Rattle.encode.specs.Encoding.{askedRight, tablesGivenRight}
 use borrow.Author.Needs.{needs}
-use Rattle.encode.proofs.Laws.{refused-asked, refused-given, refused-work, refused-none, asked-most}
+use Rattle.encode.proofs.Asked.{refused-asked, refused-given, refused-work, refused-none, asked-most}
 use Rattle.encode.proofs.asked_refusal.Statement.{statement}
 use Rattle.encode.proofs.asked_refusal.Tie as tie
 

@@ -1,6 +1,6 @@
 -- The first rule that is broken decides.
 use native.Mathlib.Omega.{arith}
-use Rattle.encode.proofs.Laws.{asked-short, asked-long, asked-order}
+use Rattle.encode.proofs.Asked.{asked-short, asked-long, asked-order}
 use Rattle.encode.proofs.asked_right.Statement.{statement}
 use Rattle.encode.proofs.asked_right.Tie as tie
 

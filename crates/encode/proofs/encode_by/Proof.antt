@@ -4,7 +4,7 @@ use mathlib.Core.Path.{sym, ap, _∙_}
 use lib.ListN.{replicate}
 use Rattle.encode.specs.InnerEncode.{clearedIf}
 use borrow.Author.Needs.{needs}
-use Rattle.encode.proofs.Laws.{cleared-some}
+use Rattle.encode.proofs.Asked.{cleared-some}
 use Rattle.encode.proofs.encode_by.Statement.{statement}
 use Rattle.encode.proofs.encode_by.Tie as tie
 

@@ -6,7 +6,7 @@ use lib.ListN.{length}
 use lib.Seq.{length-take-le}
 use Rattle.encode.specs.Encoding.{tablesGiven, tablesGivenRight, askedRefusal}
 use borrow.Author.Needs.{needs}
-use Rattle.encode.proofs.Laws.{asked-none, encoded-refused, encoded-answered}
+use Rattle.encode.proofs.Asked.{asked-none, encoded-refused, encoded-answered}
 use Rattle.encode.proofs.encode_lead.Statement.{statement}
 use Rattle.encode.proofs.encode_lead.Tie as tie
 

@@ -1,7 +1,7 @@
 -- By how many bits were found.
 use native.Mathlib.Omega.{arith}
 use borrow.Author.Needs.{needs}
-use Rattle.encode.proofs.Laws.{found-none, found-long, found-full, found-fits}
+use Rattle.encode.proofs.Found.{found-none, found-long, found-full, found-fits}
 use Rattle.encode.proofs.found_refusal.Statement.{statement}
 use Rattle.encode.proofs.found_refusal.Tie as tie
 

@@ -1,7 +1,7 @@
 -- Without Section 2 nothing can be wrong.
 use mathlib.Core.Path.{sym, _∙_}
 use borrow.Author.Needs.{needs}
-use Rattle.encode.proofs.Laws.{given-none, given-some}
+use Rattle.encode.proofs.Asked.{given-none, given-some}
 use Rattle.encode.proofs.given_right.Statement.{statement}
 use Rattle.encode.proofs.given_right.Tie as tie
 

@@ -4,7 +4,8 @@ use mathlib.Core.Logic.{inr}
 use native.Mathlib.Omega.{arith}
 use Rattle.encode.specs.InnerEncode.{heldFor}
 use borrow.Author.Needs.{needs}
-use Rattle.encode.proofs.Laws.{tables-none, given-some, tables-held, held-some}
+use Rattle.compiled.proofs.Laws.{ready-held}
+use Rattle.encode.proofs.Asked.{tables-none, given-some, tables-some, held-some}
 use Rattle.encode.proofs.hold_tables.Statement.{statement}
 use Rattle.encode.proofs.hold_tables.Tie as tie
 
@@ -25,7 +26,8 @@ returns-2 : tie.Need-returns-2
 returns-2 c =
     let s = c .before .before .before .before .before .before .before .args .section2 .now in
     let some = c .before .before .before .before .if1 .left in
-    (omega arith, tables-held s some _ (c .before .before .compile .ensures), held-some s some)
+    let ready = c .before .before .compile .ensures in
+    (omega arith, ready-held (tables-some s some) ready (ready .room), held-some s some)
 
 pub hold-tables-spec : {M : Type 1} → statement M
 hold-tables-spec = tie.close (tie.spec returns compile-requires same-length returns-2)

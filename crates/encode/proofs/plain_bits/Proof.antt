@@ -5,7 +5,7 @@ use native.Mathlib.Omega.{arith}
 use lib.ListN.{length}
 use Rattle.samples.specs.Differences.{differences}
 use Rattle.samples.proofs.Laws.{length-differences}
-use Rattle.encode.proofs.Laws.{Inside, inside-more, plain-sized, plain-unsized}
+use Rattle.encode.proofs.Plain.{Inside, inside-more, plain-sized, plain-unsized}
 use Rattle.encode.proofs.plain_bits.Statement.{statement}
 use Rattle.encode.proofs.plain_bits.Tie as tie
 

@@ -7,7 +7,7 @@ use lib.ListN.{length, take, drop}
 use Rattle.samples.specs.Differences.{differences}
 use Rattle.samples.proofs.Laws.{length-differences}
 use Rattle.shortest.specs.InnerRule.{plainBytes}
-use Rattle.encode.proofs.Laws.{plain-put, plain-start, plain-all}
+use Rattle.encode.proofs.Plain.{plain-put, plain-start, plain-all}
 use Rattle.encode.proofs.put_plain.Statement.{statement}
 use Rattle.encode.proofs.put_plain.Tie as tie
 

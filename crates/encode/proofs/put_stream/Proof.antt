@@ -5,7 +5,8 @@ use Rattle.samples.specs.Differences.{differences}
 use Rattle.samples.proofs.Laws.{length-differences}
 use Rattle.compiled.proofs.Laws.{held-ready}
 use borrow.Author.Needs.{needs}
-use Rattle.encode.proofs.Laws.{held-none, plain-room, plain-packed, laid-plan}
+use Rattle.encode.proofs.Plain.{plain-room, plain-packed}
+use Rattle.encode.proofs.Found.{held-none, laid-plan}
 use Rattle.encode.proofs.put_stream.Statement.{statement}
 use Rattle.encode.proofs.put_stream.Tie as tie
 

@@ -7,7 +7,7 @@ use Rattle.samples.specs.Differences.{differences}
 use Rattle.compiled.proofs.Laws.{held-ready}
 use Rattle.encode.specs.InnerEncode.{Sized}
 use borrow.Author.Needs.{needs}
-use Rattle.encode.proofs.Laws.{held-none, plan-sized}
+use Rattle.encode.proofs.Found.{held-none, plan-sized}
 use Rattle.encode.proofs.stream_bits.Statement.{statement}
 use Rattle.encode.proofs.stream_bits.Tie as tie
 

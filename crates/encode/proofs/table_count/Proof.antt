@@ -5,7 +5,7 @@ use native.Mathlib.Omega.{arith}
 use lib.ListN.{length}
 use Rattle.tables.specs.declared.Structure.{Structure}
 use borrow.Author.Needs.{needs}
-use Rattle.encode.proofs.Laws.{tables-none, count-default, count-own}
+use Rattle.encode.proofs.Asked.{tables-none, count-default, count-own}
 use Rattle.encode.proofs.table_count.Statement.{statement}
 use Rattle.encode.proofs.table_count.Tie as tie
 

@@ -6,7 +6,7 @@ use lib.ListN.{length}
 use Rattle.packing.specs.Packing.{bytesFor}
 use Rattle.samples.specs.Differences.{differences}
 use borrow.Author.Needs.{needs}
-use Rattle.encode.proofs.Laws.{fits-found, written-refused, written-put}
+use Rattle.encode.proofs.Found.{fits-found, written-refused, written-put}
 use Rattle.encode.proofs.write_stream.Statement.{statement}
 use Rattle.encode.proofs.write_stream.Tie as tie
 

@@ -8,10 +8,11 @@ use borrow.Author.Needs.{needs}
 use Rattle.wire.proofs.Tests.{kept, broken}
 use Rattle.pointers.specs.Pointers.{present, sectionOf}
 use Rattle.tables.specs.Section2.{section2Right}
+use Rattle.compiled.proofs.Laws.{ready-held}
 use Rattle.rules.specs.Rules.{tablesRight}
 use Rattle.rules.proofs.Laws.{asked}
 use Rattle.leads.specs.Leads.{tablesOf}
-use Rattle.leads.proofs.Laws.{tables-held}
+use Rattle.leads.proofs.Laws.{tables-are}
 use Rattle.leads.proofs.hold_tables.Statement.{statement}
 use Rattle.leads.proofs.hold_tables.Tie as tie
 
@@ -43,7 +44,8 @@ returns-2 c =
     let e = c .before .before .before .before .before in
     let here = kept (e .before .is-present .ensures) (e .if1 .left) in
     let section = c .before .before .before .before .section-of .ensures in
-    (omega arith, tables-held (d .args .rec .now) _ _ here section (c .before .before .compile .ensures))
+    let ready = c .before .before .compile .ensures in
+    (omega arith, ready-held (tables-are (d .args .rec .now) _ here section) ready (ready .room))
 
 pub hold-tables-spec : {M : Type 1} → statement M
 hold-tables-spec =
