@@ -1,6 +1,6 @@
 pub mod Laws
 pub mod Sizes
 pub mod Streams
-pub mod Parts
+pub mod Lengths
 pub mod Outcomes
 pub mod Unique

@@ -24,7 +24,7 @@ use Rattle.compose.specs.InnerSizes.{numberWith, numberFor, SizedAs}
 use Rattle.compose.specs.InnerJob.{frontSize, sizeWith, refusalFor, answerOf, Streamed}
 use Rattle.compose.proofs.Laws.{job-listed}
 use Rattle.compose.proofs.Streams.{sizes-streams}
-use Rattle.compose.proofs.Parts.{length-data, size-parts}
+use Rattle.compose.proofs.Lengths.{length-data, size-parts}
 
 -- ---- the number of all leads
 

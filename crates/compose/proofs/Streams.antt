@@ -9,7 +9,7 @@ use borrow.Author.Tests.{leb-true}
 use borrow.Rule.Slice.PartMut.{putMid}
 use lib.Dec.{leb, eqb}
 use lib.IntN.{ℤ}
-use lib.ListN.{length, getD, take, drop, length-append, drop-of-length-le}
+use lib.ListN.{length, getD, take, drop, drop-of-length-le}
 use lib.Seq.{drop-at, drop-drop, drop-length, length-take-le}
 use Rattle.packing.specs.Packing.{bytesFor, packed}
 use Rattle.packing.proofs.Laws.{length-packed}
@@ -185,8 +185,3 @@ pub sizes-streams : {s2 : List ℕ} {order : ℕ} {xss : List (List ℤ)} {sizes
 sizes-streams {streams = streams} S (founds, all, e) =
     let same = founds-unique (S .all) all in
     S .each ∙ sizes-founds (S .founds) streams (sym (S .says)) (ap packedAll same ∙ e)
-
-pub total-joined : (streams : List (List ℕ)) → total (map length streams) ≡ length (joined streams)
-unfolding total joined
-total-joined [] = refl
-total-joined (stream ∷ streams) = simp length-append (omega (arith, total-joined streams))

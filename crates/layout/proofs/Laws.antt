@@ -1,18 +1,18 @@
--- What the proofs of this crate and of those above it cite. Assumes nothing.
+-- The bytes of sections, pointers, data and the record, and how many they are. Assumes nothing.
 use Prim.Native.Nat.{ℕ, zero, suc, _+_, _-_, _*_, _%_, _≤_, _<_}
 use mathlib.Core.Path.{_≡_, refl, sym, ap, _∙_}
-use mathlib.Core.Bool.{cond}
+use mathlib.Core.Bool.{Bool, true, false, cond}
 use mathlib.Core.List.{List, [], _∷_, _++_, map, append-assoc, append-nil}
 use native.Mathlib.Nat.{add-zero}
 use native.Mathlib.Numerals.{add-one}
 use native.Mathlib.Omega.{arith}
-use lib.ListN.{length, getD, replicate, take, drop, set, take-append-drop, length-append, length-map, length-replicate, drop-of-length-le}
-use lib.Seq.{length-take-le, set-split, take-at, drop-at}
+use borrow.Author.Tests.{eq-eqb, ne-eqb, eqb-true}
 use lib.Dec.{eqb}
-use borrow.Author.Tests.{ne-eqb}
+use lib.ListN.{length, getD, replicate, take, drop, length-append, length-map, length-replicate, drop-of-length-le}
+use lib.Seq.{take-at, drop-at}
 use Rattle.wire.specs.Numbers.{bytesOf}
 use Rattle.wire.specs.Check.{crcOf}
-use Rattle.wire.proofs.Laws.{put-next, length-bytesOf}
+use Rattle.wire.proofs.Laws.{length-bytesOf}
 use Rattle.layout.specs.Layout.{evened, sectionLength, checked, sectionBytes, zeroReserved, letters}
 use Rattle.layout.specs.Layout.{entriesOf, leadsData, byteCountsOf, joined, streamsData}
 use Rattle.layout.specs.Layout.{pointerBytes, absent, pointersData, section2Size, section2Bytes, recordSize, recordBytes}
@@ -20,50 +20,7 @@ use Rattle.layout.specs.InnerCounts.{byteCounts}
 use Rattle.layout.specs.InnerHeader.{headed}
 use Rattle.layout.specs.InnerPointers.{absents}
 use Rattle.layout.specs.InnerLeads.{entryBytes}
-
--- ---- one put after another
-
--- a list l has become x: from j up to k it was filled with q
-pub record Filled (l : List ℕ) (j : ℕ) (q : List ℕ) (k : ℕ) (x : List ℕ) : Type 0 where
-  pub start : length (take j l) ≡ j
-  pub size : j + length q ≡ k
-  pub is : x ≡ take j l ++ (q ++ drop k l)
-
--- puts begin at j
-pub filled-from : (l : List ℕ) (j : ℕ) → j ≤ length l → Filled l j [] j l
-filled-from l j h = record { start = length-take-le j l h; size = omega arith; is = sym (take-append-drop j l) }
-
--- the next m bytes are put, up to e
-pub filled-put : {l q x y : List ℕ} {j k : ℕ} (b : List ℕ) (m e : ℕ) → Filled l j q k x → length b ≡ m → k + m ≡ e
-    → y ≡ take k x ++ (b ++ drop (k + m) x) → Filled l j (q ++ b) e y
-filled-put {l} {q} {x} {y} {j} {k} b m e f n h g =
-    let p = take j l ++ q in
-    let whole : length p ≡ k = length-append (take j l) q ∙ omega (arith, f .start, f .size) in
-    let before : x ≡ p ++ drop k l = f .is ∙ sym (append-assoc (take j l) q (drop k l)) in
-    record {
-      start = f .start;
-      size = rw (length-append q b) (omega (arith, f .size));
-      is =
-          g
-          ∙ ap (λ (z : List ℕ). take k z ++ (b ++ drop (k + m) z)) before
-          ∙ put-next p b l k m whole
-          ∙ rw h (simp append-assoc);
-    }
-
--- the next bytes are a number's
-pub filled-number : {l q x y : List ℕ} {j k : ℕ} (w n e : ℕ) → Filled l j q k x → k + w ≡ e
-    → y ≡ take k x ++ (bytesOf w n ++ drop (k + w) x) → Filled l j (q ++ bytesOf w n) e y
-filled-number w n e f h g = filled-put (bytesOf w n) w e f (length-bytesOf w n) h g
-
--- the next byte is stored, up to e
-pub filled-store : {l q x : List ℕ} {j k : ℕ} (v e : ℕ) → Filled l j q k x → k < length x → k + 1 ≡ e
-    → Filled l j (q ++ (v ∷ [])) e (set x k v)
-filled-store {l} {q} {x} {j} {k} v e f h g =
-    filled-put (v ∷ []) 1 e f refl g (rw (add-one k) (set-split x k v h))
-
--- what stands from j on
-pub filled-behind : {l q x : List ℕ} {j k : ℕ} → Filled l j q k x → drop j x ≡ q ++ drop k l
-filled-behind {l} {q} {x} {j} {k} f = ap (drop j) (f .is) ∙ drop-at (take j l) (q ++ drop k l) j (f .start)
+use Rattle.layout.proofs.Filled.{Filled}
 
 -- ---- a section
 
@@ -131,7 +88,7 @@ absents-more from id h =
     rw next (absents-snoc from (id - from) ∙ rw here)
 
 -- Section 2's pointer, where the section may be absent
-pub second-is : (size index : ℕ)
+second-is : (size index : ℕ)
     → pointerBytes 2 size (cond (eqb size 0) 0 index) ≡ cond (eqb size 0) (absent 2) (pointerBytes 2 size index)
 second-is zero index = refl
 second-is (suc n) index = rw (ne-eqb (suc n) 0 (λ e. omega arith)) refl
@@ -225,13 +182,40 @@ pub length-streamsData : (step interval order : ℕ) (streams : List (List ℕ))
 unfolding streamsData
 length-streamsData step interval order streams = simp (length-append, length-bytesOf, length-byteCountsOf) (omega arith)
 
--- ---- the record
+-- ---- Section 2, which may not be given
+
+module _ (version : ℕ) (s2 : List ℕ) (h : length s2 ≡ 0) where
+  pub given-none : (part : List ℕ) → length part ≡ section2Size (length s2) → part ≡ section2Bytes version s2
+  unfolding section2Bytes
+  given-none part e =
+      rw (eq-eqb (length s2) 0 h) (drop-of-length-le part {i = 0} (omega (arith, rw (eq-eqb (length s2) 0 h) at e)))
+
+module _ (version : ℕ) (s2 : List ℕ) (h : length s2 ≡ 0 → ⊥) where
+  pub given-some : sectionBytes 2 version zeroReserved s2 ≡ section2Bytes version s2
+  unfolding section2Bytes
+  given-some = rw (ne-eqb (length s2) 0 h)
+
+-- its length
+pub given-zero : (count : ℕ) → count ≡ 0 → 0 ≡ section2Size count
+given-zero count h = rw (eq-eqb count 0 h)
+
+pub given-sized : (count : ℕ) → (count ≡ 0 → ⊥) → sectionLength count ≡ section2Size count
+given-sized count h = rw (ne-eqb count 0 h)
+
+pub given-bounds : (count : ℕ) → (count ≤ section2Size count) × (section2Size count ≤ count + 17)
+given-bounds count = go (eqb count 0) refl
+  where
+    go : (b : Bool) → eqb count 0 ≡ b → (count ≤ cond b 0 (sectionLength count)) × (cond b 0 (sectionLength count) ≤ count + 17)
+    go true e = let z = eqb-true count 0 e in (omega arith, omega arith)
+    go false e = (omega arith, omega arith)
 
 pub length-section2Bytes : (version : ℕ) (contents : List ℕ) → length (section2Bytes version contents) ≡ section2Size (length contents)
 unfolding section2Bytes
 length-section2Bytes version [] = refl
 length-section2Bytes version (b ∷ contents) =
     rw (ne-eqb (suc (length contents)) 0 (λ e. omega arith)) (length-sectionBytes 2 version zeroReserved (b ∷ contents) refl)
+
+-- ---- the record
 
 pub length-recordBytes : (version : ℕ) (data1 data2 data3 data6 : List ℕ)
     → length (recordBytes version data1 data2 data3 data6) ≡ recordSize (length data1) (length data2) (length data3) (length data6)

@@ -1,7 +1,7 @@
 -- The sections before Section 6, one behind another.
 use native.Mathlib.Omega.{arith}
 use borrow.Author.Needs.{needs}
-use Rattle.compose.proofs.Parts.{given-bounds}
+use Rattle.layout.proofs.Laws.{given-bounds}
 use Rattle.compose.proofs.front_size.Statement.{statement}
 use Rattle.compose.proofs.front_size.Tie as tie
 

@@ -1,7 +1,7 @@
 -- Empty data have no section.
 use mathlib.Core.Path.{_∙_}
 use borrow.Author.Needs.{needs}
-use Rattle.compose.proofs.Parts.{given-zero, given-sized}
+use Rattle.layout.proofs.Laws.{given-zero, given-sized}
 use Rattle.compose.proofs.given_size.Statement.{statement}
 use Rattle.compose.proofs.given_size.Tie as tie
 

@@ -5,7 +5,7 @@ use native.Mathlib.Omega.{arith}
 use borrow.Author.Needs.{needs}
 use lib.ListN.{length}
 use Rattle.layout.specs.Layout.{sectionLength}
-use Rattle.compose.proofs.Parts.{given-bounds}
+use Rattle.layout.proofs.Laws.{given-bounds}
 use Rattle.compose.proofs.record_size.Statement.{statement}
 use Rattle.compose.proofs.record_size.Tie as tie
 

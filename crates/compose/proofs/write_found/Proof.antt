@@ -4,15 +4,17 @@ use mathlib.Core.Path.{_≡_, refl, sym, _∙_, subst}
 use mathlib.Core.List.{List}
 use native.Mathlib.Omega.{arith}
 use native.Mathlib.Nat.{le-trans, le-of-eq}
-use borrow.Rule.Slice.PartMut.{mid-len, same-len-mid}
+use borrow.Rule.Slice.PartMut.{mid-len, same-len-mid, drop-put}
 use lib.ListN.{length, take}
 use lib.Seq.{length-take-le}
 use Rattle.layout.specs.Layout.{sectionLength}
+use Rattle.layout.proofs.Filled.{put-inside}
+use Rattle.layout.proofs.Laws.{given-bounds}
 use Rattle.compose.specs.Writing.{cut}
 use Rattle.compose.specs.InnerSizes.{SizedAs}
 use Rattle.compose.specs.InnerJob.{count6, sizeWith}
 use Rattle.compose.proofs.Outcomes.{answer-zero, nothing-refused}
-use Rattle.compose.proofs.Parts.{given-bounds, size-parts, behind-six, inside-six}
+use Rattle.compose.proofs.Lengths.{size-parts}
 use Rattle.compose.proofs.write_found.Statement.{statement}
 use Rattle.compose.proofs.write_found.Tie as tie
 
@@ -163,9 +165,9 @@ returns-2 c =
         answer = j .ensures;
         same = λ h. absurd (h (g .before .if1 .left));
         put = λ z. (
-          behind-six (a .out .now) (w .last .1 .1 .1 .1 .1 .1 .1 .0) from to begins (stops g) whole,
+          drop-put from to (a .out .now) (w .last .1 .1 .1 .1 .1 .1 .1 .0) begins (stops g) whole,
           λ streams found.
-              rw (← (g .front-size .ensures .0)) (inside-six (a .out .now) (w .last .1 .1 .1 .1 .1 .1 .1 .0) from to begins (stops g) whole)
+              rw (← (g .front-size .ensures .0)) (put-inside (a .out .now) (w .last .1 .1 .1 .1 .1 .1 .1 .0) from to begins (stops g) whole)
               ∙ w .ensures .0 streams found,
         );
       },

@@ -6,9 +6,10 @@ use native.Mathlib.Omega.{arith}
 use borrow.Rule.Slice.PartMut.{putMid, mid-len}
 use lib.ListN.{length}
 use Rattle.layout.specs.Layout.{sectionLength, leadsData}
-use Rattle.layout.proofs.Laws.{Filled, filled-from, length-leadsData}
+use Rattle.layout.proofs.Filled.{Filled, filled-from, filled-part, filled-length}
+use Rattle.layout.proofs.Laws.{given-bounds, length-leadsData}
+use Rattle.layout.proofs.Record.{record-put}
 use Rattle.compose.specs.InnerJob.{frontSize}
-use Rattle.compose.proofs.Parts.{filled-part, filled-length, given-bounds, record-put}
 use Rattle.compose.proofs.write_front.Statement.{statement}
 use Rattle.compose.proofs.write_front.Tie as tie
 

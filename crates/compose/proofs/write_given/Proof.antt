@@ -2,7 +2,7 @@
 use mathlib.Core.Path.{sym, _∙_}
 use borrow.Author.Needs.{needs}
 use lib.ListN.{length}
-use Rattle.compose.proofs.Parts.{given-none, given-some, given-sized}
+use Rattle.layout.proofs.Laws.{given-none, given-some, given-sized}
 use Rattle.compose.proofs.write_given.Statement.{statement}
 use Rattle.compose.proofs.write_given.Tie as tie
 

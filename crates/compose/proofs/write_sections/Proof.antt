@@ -8,8 +8,8 @@ use borrow.Rule.Slice.PartMut.{putMid, mid-len}
 use lib.ListN.{length, drop}
 use lib.Seq.{length-take-le}
 use Rattle.layout.specs.Layout.{sectionLength}
-use Rattle.layout.proofs.Laws.{Filled}
-use Rattle.compose.proofs.Parts.{filled-front, filled-part, filled-length, filled-three, given-bounds}
+use Rattle.layout.proofs.Filled.{Filled, filled-front, filled-part, filled-length, filled-three}
+use Rattle.layout.proofs.Laws.{given-bounds}
 use Rattle.compose.proofs.write_sections.Statement.{statement}
 use Rattle.compose.proofs.write_sections.Tie as tie
 

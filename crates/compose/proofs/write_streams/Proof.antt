@@ -1,13 +1,15 @@
 -- The head, the streams behind it and the spare byte are the section’s data.
-use Prim.Native.Nat.{ℕ, _+_, _-_, _*_}
+use Prim.Native.Nat.{_+_, _-_, _*_}
 use mathlib.Core.Path.{_≡_, refl, ap, _∙_}
 use native.Mathlib.Omega.{arith}
 use borrow.Author.Needs.{needs}
 use lib.ListN.{length}
 use borrow.Rule.Slice.PartMut.{putMid, mid-len, same-len-mid}
 use Rattle.layout.specs.Layout.{streamsData}
+use Rattle.layout.proofs.Record.{section6-put}
+use Rattle.compose.specs.Writing.{total}
 use Rattle.compose.proofs.Streams.{sizes-streams}
-use Rattle.compose.proofs.Parts.{section6-put, section6-size}
+use Rattle.compose.proofs.Lengths.{total-joined, section6-size}
 use Rattle.compose.proofs.write_streams.Statement.{statement}
 use Rattle.compose.proofs.write_streams.Tie as tie
 
@@ -85,10 +87,11 @@ returns c =
     ∙ h .kept .0 in (
       λ streams found.
           let are = sizes-streams (p .1 .3) found in
-          let even = section6-put (a .head .step) (a .head .interval) (a .head .order) (a .sizes .now) streams are
-          (a .part .now) x y z zs from (from + t .result) refl (ap (λ (n : ℕ). from + n) (t .ensures .0)) (p .1 .4)
-          (h .ensures) refl (b .ensures .0 streams found) long (s .ensures) in
           let size = section6-size (a .head .step) (a .head .interval) (a .head .order) (a .sizes .now) streams are (p .1 .4) in
+          let put = b .ensures .0 streams found in
+          let stop : from + t .result ≡ from + length zs = omega (arith, t .ensures .0, ap total are, total-joined streams, ap length put) in
+          let even = section6-put (a .head .step) (a .head .interval) (a .head .order) (a .sizes .now) streams are
+          (a .part .now) x y z zs from (from + t .result) refl stop size (h .ensures) refl put long (s .ensures) in
           c .before .before .seal .ensures .1 (streamsData (a .head .step) (a .head .interval) (a .head .order) streams) even
           (s .kept .0 ∙ long ∙ size),
       b .ensures .1,

@@ -5,7 +5,8 @@ use native.Mathlib.Omega.{arith}
 use lib.ListN.{length}
 use Rattle.layout.specs.Layout.{absent}
 use Rattle.layout.specs.InnerPointers.{absents}
-use Rattle.layout.proofs.Laws.{Filled, filled-from, filled-put, length-pointerBytes, absents-more}
+use Rattle.layout.proofs.Filled.{Filled, filled-from, filled-put}
+use Rattle.layout.proofs.Laws.{length-pointerBytes, absents-more}
 use borrow.Author.Needs.{needs}
 use Rattle.layout.proofs.put_absent.Statement.{statement}
 use Rattle.layout.proofs.put_absent.Tie as tie

@@ -5,7 +5,8 @@ use native.Mathlib.Omega.{arith}
 use lib.ListN.{length, getD, take}
 use lib.Seq.{take-length}
 use Rattle.layout.specs.InnerCounts.{byteCounts}
-use Rattle.layout.proofs.Laws.{Filled, filled-from, filled-number, counts-more}
+use Rattle.layout.proofs.Filled.{Filled, filled-from, filled-number}
+use Rattle.layout.proofs.Laws.{counts-more}
 use borrow.Author.Needs.{needs}
 use Rattle.layout.proofs.put_counts.Statement.{statement}
 use Rattle.layout.proofs.put_counts.Tie as tie

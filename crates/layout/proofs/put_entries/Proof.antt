@@ -6,7 +6,8 @@ use lib.ListN.{length, getD, take}
 use lib.Seq.{take-all}
 use Rattle.layout.specs.Layout.{entriesOf}
 use Rattle.layout.specs.InnerLeads.{entryBytes}
-use Rattle.layout.proofs.Laws.{Filled, filled-from, filled-put, length-entryBytes, entries-more}
+use Rattle.layout.proofs.Filled.{Filled, filled-from, filled-put}
+use Rattle.layout.proofs.Laws.{length-entryBytes, entries-more}
 use borrow.Author.Needs.{needs}
 use Rattle.layout.proofs.put_entries.Statement.{statement}
 use Rattle.layout.proofs.put_entries.Tie as tie

@@ -5,7 +5,7 @@ use mathlib.Core.List.{append-assoc}
 use native.Mathlib.Omega.{arith}
 use lib.ListN.{length-set}
 use Rattle.layout.specs.InnerLeads.{entryBytes}
-use Rattle.layout.proofs.Laws.{filled-from, filled-number, filled-store}
+use Rattle.layout.proofs.Filled.{filled-from, filled-number, filled-store}
 use borrow.Author.Needs.{needs}
 use Rattle.layout.proofs.put_entry.Statement.{statement}
 use Rattle.layout.proofs.put_entry.Tie as tie

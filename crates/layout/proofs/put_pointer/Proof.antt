@@ -4,7 +4,7 @@ use mathlib.Core.List.{append-assoc}
 use Prim.Native.Nat.{_+_}
 use native.Mathlib.Omega.{arith}
 use Rattle.layout.specs.Layout.{pointerBytes}
-use Rattle.layout.proofs.Laws.{filled-from, filled-number}
+use Rattle.layout.proofs.Filled.{filled-from, filled-number}
 use borrow.Author.Needs.{needs}
 use Rattle.layout.proofs.put_pointer.Statement.{statement}
 use Rattle.layout.proofs.put_pointer.Tie as tie

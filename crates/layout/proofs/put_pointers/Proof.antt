@@ -8,7 +8,8 @@ use lib.ListN.{take}
 use lib.Dec.{eqb}
 use Rattle.layout.specs.Layout.{pointerBytes}
 use Rattle.layout.specs.InnerPointers.{absents}
-use Rattle.layout.proofs.Laws.{filled-from, filled-put, length-pointerBytes, length-absents, pointers-are}
+use Rattle.layout.proofs.Filled.{filled-from, filled-put}
+use Rattle.layout.proofs.Laws.{length-pointerBytes, length-absents, pointers-are}
 use borrow.Author.Needs.{needs}
 use Rattle.layout.proofs.put_pointers.Statement.{statement}
 use Rattle.layout.proofs.put_pointers.Tie as tie

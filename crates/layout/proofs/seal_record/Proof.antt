@@ -3,7 +3,7 @@ use mathlib.Core.Path.{refl, ap, _∙_}
 use native.Mathlib.Omega.{arith}
 use lib.ListN.{length}
 use Rattle.layout.specs.Layout.{checked}
-use Rattle.layout.proofs.Laws.{filled-from, filled-number, filled-behind}
+use Rattle.layout.proofs.Filled.{filled-from, filled-number, filled-behind}
 use borrow.Author.Needs.{needs}
 use Rattle.layout.proofs.seal_record.Statement.{statement}
 use Rattle.layout.proofs.seal_record.Tie as tie

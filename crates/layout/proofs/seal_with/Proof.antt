@@ -5,7 +5,7 @@ use native.Mathlib.Omega.{arith}
 use lib.ListN.{length, length-set}
 use borrow.Author.Needs.{needs}
 use Rattle.layout.specs.Layout.{checked}
-use Rattle.layout.proofs.Laws.{filled-from, filled-put, filled-number, filled-store, filled-behind}
+use Rattle.layout.proofs.Filled.{filled-from, filled-put, filled-number, filled-store, filled-behind}
 use Rattle.layout.proofs.seal_with.Statement.{statement}
 use Rattle.layout.proofs.seal_with.Tie as tie
 

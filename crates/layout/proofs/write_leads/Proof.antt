@@ -4,7 +4,8 @@ use mathlib.Core.Path.{_≡_, refl, _∙_}
 use native.Mathlib.Omega.{arith}
 use lib.ListN.{length, length-set}
 use Rattle.layout.specs.Layout.{entriesOf, leadsData}
-use Rattle.layout.proofs.Laws.{filled-from, filled-put, filled-store, spare-put, length-entriesOf, length-leadsData}
+use Rattle.layout.proofs.Filled.{filled-from, filled-put, filled-store}
+use Rattle.layout.proofs.Laws.{spare-put, length-entriesOf, length-leadsData}
 use borrow.Author.Needs.{needs}
 use Rattle.layout.proofs.write_leads.Statement.{statement}
 use Rattle.layout.proofs.write_leads.Tie as tie

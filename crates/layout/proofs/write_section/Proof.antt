@@ -3,7 +3,8 @@ use mathlib.Core.Path.{refl}
 use Prim.Native.Nat.{_+_}
 use native.Mathlib.Omega.{arith}
 use lib.ListN.{length}
-use Rattle.layout.proofs.Laws.{filled-from, filled-put, spare-put}
+use Rattle.layout.proofs.Filled.{filled-from, filled-put}
+use Rattle.layout.proofs.Laws.{spare-put}
 use borrow.Author.Needs.{needs}
 use Rattle.layout.proofs.write_section.Statement.{statement}
 use Rattle.layout.proofs.write_section.Tie as tie

@@ -5,7 +5,8 @@ use mathlib.Core.List.{append-assoc}
 use native.Mathlib.Omega.{arith}
 use lib.ListN.{length, length-set}
 use Rattle.layout.specs.InnerCounts.{byteCounts}
-use Rattle.layout.proofs.Laws.{filled-from, filled-put, filled-number, filled-store, length-byteCounts}
+use Rattle.layout.proofs.Filled.{filled-from, filled-put, filled-number, filled-store}
+use Rattle.layout.proofs.Laws.{length-byteCounts}
 use borrow.Author.Needs.{needs}
 use Rattle.layout.proofs.write_streams_head.Statement.{statement}
 use Rattle.layout.proofs.write_streams_head.Tie as tie
