@@ -30,6 +30,11 @@ fn main() {
 fn archive_folder() -> PathBuf {
     match env::var_os("SCP_ARCHIVE_DIR") {
         Some(folder) if !folder.is_empty() => PathBuf::from(folder),
-        _ => PathBuf::from(env!("CARGO_MANIFEST_DIR")).join("../../target/staticlib"),
+        _ => package_folder().join("../../target/staticlib"),
     }
+}
+
+/// The folder of this package: where it stands now, and not where this program was compiled.
+fn package_folder() -> PathBuf {
+    PathBuf::from(env::var_os("CARGO_MANIFEST_DIR").expect("cargo names it"))
 }

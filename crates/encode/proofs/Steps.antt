@@ -34,7 +34,7 @@ use Rattle.shortest.proofs.Forms.{form-leads}
 use Rattle.shortest.proofs.Bridge.{sound, shortest-of, unique}
 use Rattle.search.specs.InnerSearch.{FilledBy, cap, Trail, Planned, countOf, formIn}
 use Rattle.search.proofs.Laws.{counted, count-most, form-there, right-there, small-there, fine-there}
-use Rattle.encode.specs.InnerEncode.{codeOf}
+use Rattle.encode.specs.InnerEncode.{codeOf, On, Going}
 
 -- ---- a code put behind what was written
 
@@ -67,17 +67,6 @@ rest-on out₀ out out′ s r w c h g before here =
     here ∙ rest-later (s .at) (r .at) out out₀ later before
 
 -- ---- one set of tables
-
--- w is written, s is left, and together they are the shortest stream
-pub record On (tables : List (List Structure)) (vs : List ℤ) (total : ℕ) (out : List ℕ) (sink : Sink) (i t left : ℕ) : Type 0 where
-  pub table : There (rule tables) t
-  pub s : List ℕ
-  pub best : Best (rule tables) t (drop i vs) s
-  pub rest : length s ≡ left
-  pub w : List ℕ
-  pub holds : Holds out sink w
-  pub sum : length w + left ≡ total
-  pub all : (z : List ℕ) → Shortest tables vs z → z ≡ w ++ s
 
 on-start : {tables : List (List Structure)} {tab : List ℕ} (ready : Ready tables tab) (vs : List ℤ) (work : List ℕ) (total : ℕ)
     (out : List ℕ) (sink : Sink) → Planned tables vs work total → total < cap → Holds out sink [] → On tables vs total out sink 0 1 total
@@ -197,11 +186,6 @@ module _ {tables : List (List Structure)} {tab : List ℕ} (ready : Ready tables
 
 -- ---- all sets of tables that the numbers say
 
-pub record Going (tab : List ℕ) (n : ℕ) (vs : List ℤ) (total : ℕ) (out₀ out : List ℕ) (sink : Sink) (i t left : ℕ) : Type 0 where
-  pub same : length out ≡ length out₀
-  pub behind : drop (sink .at) out ≡ drop (sink .at) out₀
-  pub on : (tables : List (List Structure)) → Ready tables tab → length tables ≡ n → On tables vs total out sink i t left
-
 -- a place of the work space
 pub place-room : (i t n samples room : ℕ) → i < samples → 1 ≤ t → t ≤ n → samples * n ≤ room → i * n + (t - 1) < room
 place-room i t n samples room hi ht hn h = omega (arith, suc-mul i n, mul-le-mul-right n hi)
@@ -275,6 +259,17 @@ module _ {tab : List ℕ} {n : ℕ} {vs : List ℤ} {total : ℕ} {out₀ out : 
             let O = G .on tables ready many in
             on-switch ready vs work n total many (plan tables ready many .trail) few out sink i t left O more f e out′ sink′
             (put (O .w) (O .holds)) h)
+
+-- the walk went on from where it had come to
+pub going-then : {tab : List ℕ} {n : ℕ} {vs : List ℤ} {total : ℕ} {out₀ out out′ : List ℕ} {s s′ : Sink} {i t left i′ t′ left′ : ℕ}
+    → FilledBy tab n → Going tab n vs total out₀ out s i t left → Going tab n vs total out out′ s′ i′ t′ left′ → left′ < left
+    → Going tab n vs total out₀ out′ s′ i′ t′ left′
+going-then {out₀ = out₀} {out = out} {s = s} {s′ = s′} filled G H less =
+    let later : s .at ≤ s′ .at = omega (arith, next-sink filled G, next-sink filled H) in record {
+      same = H .same ∙ G .same;
+      behind = H .behind ∙ rest-later (s .at) (s′ .at) out out₀ later (G .behind);
+      on = H .on;
+    }
 
 -- nothing is left: the stream stands at the front
 pub going-end : {tab : List ℕ} {n : ℕ} {vs : List ℤ} {total : ℕ} {out₀ out : List ℕ} {sink : Sink} {i t left : ℕ}

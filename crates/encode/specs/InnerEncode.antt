@@ -1,16 +1,20 @@
 -- What writing a lead's stream asks and leaves. No public contract rests on this.
-use Prim.Native.Nat.{ℕ, zero, suc, min}
+use Prim.Native.Nat.{ℕ, zero, suc, min, _+_}
 use mathlib.Core.Path.{_≡_}
 use mathlib.Core.List.{List, [], _++_}
 use mathlib.Core.Logic.{_⊎_}
 use mathlib.Core.Option.{Option, none, some}
 use lib.IntN.{ℤ}
-use lib.ListN.{length, replicate}
+use lib.ListN.{length, drop, replicate}
 use Rattle.bits.specs.Bits.{highFirst}
 use Rattle.tables.specs.declared.Structure.{Structure}
 use Rattle.compiled.specs.declared.Form.{Form}
-use Rattle.compiled.specs.InnerForm.{Holding}
-use Rattle.shortest.specs.InnerRule.{twos}
+use Rattle.compiled.specs.InnerForm.{Ready, Holding}
+use Rattle.packing.specs.declared.Sink.{Sink}
+use Rattle.packing.specs.InnerSink.{Holds}
+use Rattle.paths.specs.InnerPaths.{There, Best}
+use Rattle.shortest.specs.Shortest.{Shortest}
+use Rattle.shortest.specs.InnerRule.{twos, rule}
 use Rattle.search.specs.InnerSearch.{Planned}
 use Rattle.encode.specs.declared.Coded.{Coded}
 use Rattle.encode.specs.Encoding.{Found, foundRefusal, codedAs, outAs}
@@ -18,6 +22,27 @@ use Rattle.encode.specs.Encoding.{Found, foundRefusal, codedAs, outAs}
 -- the code word of a structure's form for a value
 abbrev pub codeOf : Form → ℤ → List ℕ
 codeOf f v = highFirst (f .prefix) (f .word) ++ highFirst (f .remainder) (twos (f .remainder) v)
+
+-- ---- the walk of a stream
+
+-- w is written, s is left, and together they are the shortest stream
+pub record On (tables : List (List Structure)) (vs : List ℤ) (total : ℕ) (out : List ℕ) (sink : Sink) (i t left : ℕ) : Type 0 where
+  pub table : There (rule tables) t
+  pub s : List ℕ
+  pub best : Best (rule tables) t (drop i vs) s
+  pub rest : length s ≡ left
+  pub w : List ℕ
+  pub holds : Holds out sink w
+  pub sum : length w + left ≡ total
+  pub all : (z : List ℕ) → Shortest tables vs z → z ≡ w ++ s
+
+-- so it is for all sets of tables that the numbers say, and behind the sink the output is as it was
+pub record Going (tab : List ℕ) (n : ℕ) (vs : List ℤ) (total : ℕ) (out₀ out : List ℕ) (sink : Sink) (i t left : ℕ) : Type 0 where
+  pub same : length out ≡ length out₀
+  pub behind : drop (sink .at) out ≡ drop (sink .at) out₀
+  pub on : (tables : List (List Structure)) → Ready tables tab → length tables ≡ n → On tables vs total out sink i t left
+
+-- ---- a lead's stream
 
 -- the numbers hold some n tables, or none where n is 0
 abbrev pub HeldBy : List ℕ → ℕ → Type 0

@@ -15,7 +15,7 @@ ghost use Rattle.shortest.specs.Shortest.{Shortest};
 ghost use Rattle.shortest.specs.InnerRule.{plainBytes};
 ghost use Rattle.search.specs.InnerSearch.{FilledBy, Planned};
 ghost use Rattle.encode.specs.Encoding.{tablesGiven, askedRight, tablesGivenRight, askedRefusal, foundRefusal, codedAs, Encoded};
-ghost use Rattle.encode.specs.InnerEncode.{codeOf, HeldBy, bitsFound, Sized, Laid, Written, clearedIf, heldFor};
+ghost use Rattle.encode.specs.InnerEncode.{codeOf, Going, HeldBy, bitsFound, Sized, Laid, Written, clearedIf, heldFor};
 use compiled::Form;
 use packing::Sink;
 
@@ -51,8 +51,57 @@ fn put_code(sink: Sink, out: &mut [u8], f: Form, xs: &[i16], order: usize, i: us
     p.put(out, v % tables::power(f.remainder), f.remainder)
 }
 
-// The stream whose way is in the work space, at the front of the output. From table 1 and the first sample on: the code of the
-// structure that stands there, and on behind it; a switch leads to its table, a value to the next sample.
+// Where the walk of a stream has come to: what is written, the next sample, the table, and how many bits are left.
+struct Gone {
+    sink: Sink,
+    i: usize,
+    t: usize,
+    left: usize,
+}
+
+// The codes of the structures that stand in the work space for the next samples, as far as they are of one table: to the end, or to a
+// switch, which leads to another. In one table a sample's place does not wait for the form of the one before it.
+fn run(
+    tab: &[u32],
+    n: usize,
+    xs: &[i16],
+    order: usize,
+    work: &[u8],
+    bits: usize,
+    from: Gone,
+    out: &mut [u8],
+) -> Gone
+    requires { ⌜ FilledBy (now tab) n × (length (now xs) * n ≤ length (now work)) × (bits < 524281) × (bytesFor bits ≤ length (now out)) ⌝ }
+    requires { ⌜ ((tables : List (List Structure)) → Ready tables (now tab) → length tables ≡ n
+        → Planned tables (differences order (now xs)) (now work) bits) ⌝ }
+    requires { ⌜ Going (now tab) n (differences order (now xs)) bits (now out) (now out) (from .sink) (from .i) (from .t) (from .left)
+        × (0 < from .left) ⌝ }
+    ensures { λ r. ⌜ Going (now (tab .entry)) n (differences order (now (xs .entry))) bits (now (out .entry)) (now (out .exit))
+        (r .sink) (r .i) (r .t) (r .left) × (r .left < from .left) ⌝ }
+{
+    let t = from.t;
+    let mut sink = from.sink;
+    let mut i = from.i;
+    let mut left = from.left;
+    while 0 < left {
+        let k = work[i * n + (t - 1)] as usize;
+        let f = compiled::form_at(tab, t - 1, k);
+        sink = put_code(sink, out, f, xs, order, i);
+        left -= f.prefix + f.remainder;
+        if f.to != 0 {
+            return Gone {
+                sink,
+                i,
+                t: f.to,
+                left,
+            };
+        }
+        i += 1;
+    }
+    Gone { sink, i, t, left }
+}
+
+// The stream whose way is in the work space, at the front of the output: from table 1 and the first sample on, one table after another.
 fn walk(tab: &[u32], n: usize, xs: &[i16], order: usize, work: &[u8], bits: usize, out: &mut [u8])
     requires { ⌜ FilledBy (now tab) n × (length (now xs) * n ≤ length (now work)) × (bits < 524281) × (bytesFor bits ≤ length (now out)) ⌝ }
     requires { ⌜ ((tables : List (List Structure)) → Ready tables (now tab) → length tables ≡ n
@@ -61,22 +110,16 @@ fn walk(tab: &[u32], n: usize, xs: &[i16], order: usize, work: &[u8], bits: usiz
         → (bs : List ℕ) → Shortest tables (differences order (now (xs .entry))) bs
         → now (out .exit) ≡ packed bs ++ drop (bytesFor (length bs)) (now (out .entry))) ⌝ }
 {
-    let mut sink = Sink::new();
-    let mut i = 0;
-    let mut t = 1;
-    let mut left = bits;
-    while 0 < left {
-        let k = work[i * n + (t - 1)] as usize;
-        let f = compiled::form_at(tab, t - 1, k);
-        sink = put_code(sink, out, f, xs, order, i);
-        left -= f.prefix + f.remainder;
-        if f.to == 0 {
-            i += 1;
-        } else {
-            t = f.to;
-        }
+    let mut gone = Gone {
+        sink: Sink::new(),
+        i: 0,
+        t: 1,
+        left: bits,
+    };
+    while 0 < gone.left {
+        gone = run(tab, n, xs, order, work, bits, gone, out);
     }
-    sink.end(out);
+    gone.sink.end(out);
 }
 
 // Without Section 2: 16 bits a value, and no stream where a value has more.
