@@ -2,14 +2,17 @@
 //!
 //! A build needs neither git nor the kit: what is not there is unknown.
 
-use std::path::Path;
+use std::env;
+use std::path::{Path, PathBuf};
 use std::process::Command;
 
 /// What the library is made of.
 const SOURCES: [&str; 2] = ["crates", "crates.txt"];
 
 fn main() {
-    let top = Path::new(env!("CARGO_MANIFEST_DIR")).join("../..");
+    // where the package stands now, and not where this program was compiled
+    let package = env::var_os("CARGO_MANIFEST_DIR").expect("cargo names it");
+    let top = PathBuf::from(package).join("../..");
     watch(&top);
     let commit = commit(&top).unwrap_or_else(|| "unknown".to_string());
     let kit = said(&top, "rt", &["version"]).filter(|kit| !kit.is_empty());
