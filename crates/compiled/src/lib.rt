@@ -1,6 +1,6 @@
 // The code tables taken apart once for a lead, into the one form that reading and searching run on: 385 numbers a table (how many
 // structures, then six numbers for each), so that matching a code is a shift and a comparison. Behind the eight tables stand 256 numbers
-// a table: for each first eight bits of a stream, the place of the structure to try first.
+// a table: for each first eight bits of a stream, the structure to try first.
 ghost use mathlib.Core.Path.{_≡_};
 ghost use mathlib.Core.Bool.{true};
 ghost use mathlib.Core.List.{[], _++_};
@@ -179,7 +179,8 @@ fn put_all(s: &[u8], at: usize, spare: usize, tab: &mut [u32])
     put_none(tab, n);
 }
 
-// Structure k of table t is what to try first wherever its prefix begins the first eight bits, unless it is longer than these.
+// Structure k of table t is what to try first wherever its prefix begins the first eight bits, unless it is longer than these. What is
+// put is its place, and 64 times its prefix's length.
 fn put_guess(tab: &mut [u32], t: usize, k: usize)
     requires { ⌜ (length (now tab) ≡ 5128) × (t < 8) × (k < 64) ⌝ }
     ensures { λ _. ⌜ SameTables (now (tab .entry)) (now (tab .exit)) ⌝ }
@@ -188,6 +189,7 @@ fn put_guess(tab: &mut [u32], t: usize, k: usize)
     if 8 < f.prefix {
         return;
     }
+    let mark = (k + 64 * f.prefix) as u32;
     let width = 8 - f.prefix;
     let many = tables::power(width);
     let from = f.word << width;
@@ -196,7 +198,7 @@ fn put_guess(tab: &mut [u32], t: usize, k: usize)
     }
     let mut b = 0;
     while b < many {
-        tab[3080 + t * 256 + from + b] = k as u32;
+        tab[3080 + t * 256 + from + b] = mark;
         b += 1;
     }
 }
@@ -230,10 +232,19 @@ pub fn compile(s: &[u8], at: usize, spare: usize, tab: &mut [u32])
     }
 }
 
-// The place of the structure of table t to try first for the bits of a window. Nothing is said of it: whoever takes it tests it.
+// What stands for the first eight bits of a window.
+fn pointed(row: &[u32], w: u64) -> usize
+    requires { ⌜ length (now row) ≡ 256 ⌝ }
+{
+    let first = bits::top(w, 8) as usize;
+    row[first] as usize
+}
+
+// The structure of table t to try first for the bits of a window: its place, and 64 times its prefix's length. Nothing is said of it:
+// whoever takes it tests it.
 pub fn guess(tab: &[u32], t: usize, w: u64) -> usize
     requires { ⌜ (length (now tab) ≡ 5128) × (t < 8) ⌝ }
 {
-    let first = bits::top(w, 8) as usize;
-    tab[3080 + t * 256 + first] as usize
+    let from = 3080 + t * 256;
+    pointed(&tab[from..from + 256], w)
 }

@@ -69,19 +69,33 @@ fn walk(tab: &[u32], t: usize, w: u64, left: usize) -> Found
     Found::Nothing
 }
 
-// The same, most often at once: in a right table no other structure matches if the one that the first bits point to does.
+// The window begins with a form's prefix, and that is p bits long. Since p is known before the form is, the next code's place does not
+// wait for it.
+fn points(f: Form, p: usize, w: u64, left: usize) -> bool
+    requires { ⌜ (1 ≤ f .prefix) × (f .prefix ≤ 32) ⌝ }
+    ensures { λ r. ⌜ ((c : Structure) (bs : List ℕ) → formOf c ≡ f → Seen bs w left → r ≡ true → begins (prefixOf c) bs ≡ true) ⌝ }
+{
+    if f.prefix != p {
+        return false;
+    }
+    begins_with(f, w, left)
+}
+
+// The form that `walk` finds, most often at once: in a right table no other structure matches if the one that the first bits point to
+// does.
 fn find(tab: &[u32], t: usize, w: u64, left: usize) -> Found
     requires { ⌜ Filled (now tab) × (t < 8) ⌝ }
     ensures { λ r. ⌜ ((tables : List (List Structure)) (bs : List ℕ) → Ready tables (now (tab .entry)) → Seen bs w left
         → foundIn r ≡ formed (matching (getD tables t []) bs)) ⌝ }
 {
-    let k = compiled::guess(tab, t, w);
-    if tab[t * 385] as usize <= k {
-        return walk(tab, t, w, left);
-    }
-    let guessed = compiled::form_at(tab, t, k);
-    if begins_with(guessed, w, left) {
-        return Found::At(guessed);
+    let guess = compiled::guess(tab, t, w);
+    let p = guess / 64;
+    let k = guess % 64;
+    if k < tab[t * 385] as usize {
+        let guessed = compiled::form_at(tab, t, k);
+        if points(guessed, p, w, left) {
+            return Found::At(guessed);
+        }
     }
     walk(tab, t, w, left)
 }

@@ -10,10 +10,10 @@ use Rattle.compiled.proofs.put_guess.Statement.{statement}
 use Rattle.compiled.proofs.put_guess.Tie as tie
 
 abbrev Inv-loop : tie.InvT-loop
-Inv-loop tab₀ t k width many from b₀ tab b = (b ≤ many) × (from + many ≤ 256) × (length tab ≡ 5128) × SameTables tab₀ tab
+Inv-loop tab₀ t k mark width many from b₀ tab b = (b ≤ many) × (from + many ≤ 256) × (length tab ≡ 5128) × SameTables tab₀ tab
 
 abbrev μ-loop : tie.MeasureT-loop
-μ-loop tab₀ t k width many from b₀ tab b = many - b
+μ-loop tab₀ t k mark width many from b₀ tab b = many - b
 
 form-at-requires : tie.Need-form-at-requires Inv-loop μ-loop
 form-at-requires c κs = omega arith
@@ -24,6 +24,15 @@ same-length c = refl
 returns : tie.Need-returns Inv-loop μ-loop
 returns c i h = refl
 
+mul-mark : tie.Need-mul-mark Inv-loop μ-loop
+mul-mark c = omega arith
+
+add-mark : tie.Need-add-mark Inv-loop μ-loop
+add-mark c = omega arith
+
+cast-mark : tie.Need-cast-mark Inv-loop μ-loop
+cast-mark c = omega arith
+
 power-requires : tie.Need-power-requires Inv-loop μ-loop
 power-requires c κs = omega arith
 
@@ -33,7 +42,7 @@ shl-from c = omega arith
 -- at most 256 first eight bits begin with a prefix
 most : (c : tie.After-power Inv-loop μ-loop) → c .power .result ≤ 256
 most c =
-    let p = c .before .before .before .before .form-at .result .prefix in
+    let p = c .before .before .before .before .before .form-at .result .prefix in
     omega (arith, c .power .ensures, pow-mono {i = 8 - p} {j = 8} (omega arith))
 
 sub-if2 : tie.Need-sub-if2 Inv-loop μ-loop
@@ -47,9 +56,6 @@ returns-2 c i h = refl
 
 loop-holds : tie.Need-loop-holds Inv-loop μ-loop
 loop-holds c = (omega arith, omega (arith, most (c .before .before)), omega arith, λ i h. refl)
-
-cast-tab : tie.Need-cast-tab Inv-loop μ-loop
-cast-tab c = omega arith
 
 mul-tab : tie.Need-mul-tab Inv-loop μ-loop
 mul-tab c = omega arith
@@ -99,13 +105,15 @@ put-guess-spec =
     form-at-requires
     same-length
     returns
+    mul-mark
+    add-mark
+    cast-mark
     power-requires
     shl-from
     sub-if2
     same-length-2
     returns-2
     loop-holds
-    cast-tab
     mul-tab
     add-tab
     add-tab-2

@@ -1,5 +1,5 @@
 -- What the first bits point to is tested before it is taken; where the test holds, no other structure of a right table matches.
-use Prim.Native.Nat.{ℕ, _*_, _<_}
+use Prim.Native.Nat.{ℕ, _*_, _%_, _<_}
 use mathlib.Core.Path.{_≡_, sym, ap, _∙_}
 use mathlib.Core.List.{List, []}
 use mathlib.Core.Option.{some}
@@ -29,40 +29,34 @@ shared-slice-read-if1 c = search needs
 cast-if1 : tie.Need-cast-if1
 cast-if1 c = omega (arith, c .shared-slice-known2 .given (c .before .before .before .args .t * 385))
 
-walk-requires : tie.Need-walk-requires
-walk-requires c κs = search needs
-
-returns : tie.Need-returns
-returns c = search needs
-
 form-at-requires : tie.Need-form-at-requires
 form-at-requires c κs =
     let start = c .before .before .before .before in
     let ready = start .pre .0 .1 in
     (ready .room, omega arith, omega (arith, held-count ready (start .args .t) (omega arith)))
 
-begins-with-requires : tie.Need-begins-with-requires
-begins-with-requires c κs =
+points-requires : tie.Need-points-requires
+points-requires c κs =
     let start = c .before .before .before .before .before in
-    let f = held-fine (start .pre .0 .1) (start .args .t) (omega arith) (c .before .before .before .guess .result) (omega arith) in
+    let f = held-fine (start .pre .0 .1) (start .args .t) (omega arith) (c .before .before .before .guess .result % 64) (omega arith) in
     rw (c .form-at .ensures) (f .some, f .most)
 
-returns-2 : tie.Need-returns-2
-returns-2 c tables bs ready seen =
-    let t = c .before .before .before .before .before .before .before .args .t in
-    let k = c .before .before .before .before .before .guess .result in
+returns : tie.Need-returns
+returns c tables bs ready seen =
+    let read = c .before .before in
+    let t = read .before .before .before .before .before .args .t in
+    let k = read .before .before .before .guess .result % 64 in
     let cs = getD tables t [] in
-    let d = getD cs k noStructure in
     let there : k < length cs = omega (arith, ready .says t (omega arith) .count) in
-    let e = sym (c .before .before .form-at .ensures ∙ held-form ready t (omega arith) k (omega arith)) in
-    let begun = sym (c .before .begins-with .ensures d bs e seen) ∙ c .if2 .taken in
+    let e = sym (read .form-at .ensures ∙ held-form ready t (omega arith) k (omega arith)) in
+    let begun = c .before .points .ensures (getD cs k noStructure) bs e seen (c .if2 .taken) in
     ap some (sym e) ∙ ap formed (sym (matching-begun cs (held-apart ready t (omega arith)) k there bs begun))
 
-walk-requires-2 : tie.Need-walk-requires-2
-walk-requires-2 c κs = search needs
+walk-requires : tie.Need-walk-requires
+walk-requires c κs = search needs
 
-returns-3 : tie.Need-returns-3
-returns-3 c = search needs
+returns-2 : tie.Need-returns-2
+returns-2 c = search needs
 
 pub find-spec : {M : Type 1} → statement M
 find-spec =
@@ -73,10 +67,8 @@ find-spec =
     mul-if1-2
     shared-slice-read-if1
     cast-if1
-    walk-requires
-    returns
     form-at-requires
-    begins-with-requires
-    returns-2
-    walk-requires-2
-    returns-3)
+    points-requires
+    returns
+    walk-requires
+    returns-2)
