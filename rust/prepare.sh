@@ -164,9 +164,11 @@ is_stale() { # FILE FOLDER...
 # Prints what the library is made of, as seen from the repository's folder.
 library_sources() { ls -d crates.txt crates/*/src crates/*/specs crates/*/proofs 2>/dev/null; }
 
+needs_the_kit() { has_command rt || die "the library is to be proved, and the Rattle kit (rt) is not there"; }
+
 # Proves the library and writes its archive.
 make_archive() {
-    has_command rt || die "the library is to be proved, and the Rattle kit (rt) is not there"
+    needs_the_kit
     (cd "$top" && quietly archive.log rt staticlib scp)
 }
 
@@ -174,6 +176,7 @@ make_archive() {
 renew_archive() {
     # shellcheck disable=SC2046 # no blanks in these names
     (cd "$top" && is_stale "$archive" $(library_sources)) || return 0
-    say "proving and compiling the library; this takes some minutes, and is done once"
+    needs_the_kit
+    say "proving and compiling the library; this takes some minutes, and is done once (what is proved so far: $logs/archive.log)"
     make_archive
 }
