@@ -17,14 +17,15 @@ use measure::Table;
 
 /// Measure the proved library beside plain Rust.
 #[derive(Parser)]
+#[command(bin_name = "rust/bench/run")]
 struct Cli {
     /// What to measure; all of it if nothing is named
     parts: Vec<Part>,
     /// How many rounds each line has
     #[arg(long, value_name = "N", default_value_t = 41)]
     rounds: usize,
-    /// How the tool is run, the words of it with blanks between
-    #[arg(long, value_name = "WORDS", default_value = "")]
+    /// How the tool is run, the words of it with blanks between; the script says it
+    #[arg(long, value_name = "WORDS", default_value = "", hide = true)]
     tool: String,
 }
 
