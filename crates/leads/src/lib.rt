@@ -50,6 +50,10 @@ fn sample_room() -> [i16; 65536] {
     [0; 65536]
 }
 
+fn small_room() -> [i16; 8192] {
+    [0; 8192]
+}
+
 // All of the lent work space is made zeros.
 fn clear(work: &mut [i16])
     ensures { λ _. ⌜ now (work .exit) ≡ replicate (length (now (work .exit))) (pos 0) ⌝ }
@@ -158,7 +162,27 @@ fn lead_out(
     0
 }
 
-// Lead k is read by the record's tables, in room of its own.
+// Lead k is rebuilt in the front of the room, and copied to the output if nothing was refused.
+fn read_in(
+    rec: &[u8],
+    k: usize,
+    tab: &[u32],
+    room: &mut [i16],
+    out: &mut [i16],
+    work: &mut [i16],
+) -> u8
+    requires { ⌜ Holding (tablesOf (now rec)) (now tab) ⌝ }
+    requires { ⌜ Readable (now rec) k (length (now work)) ⌝ }
+    requires { ⌜ (sampleCountAt (now rec) k ≤ length (now room)) × (sampleCountAt (now rec) k ≤ length (now out)) ⌝ }
+    ensures { λ r. ⌜ ((xs : List ℤ) × (traceOf r xs ≡ traceAt (now (rec .entry)) k))
+        × (now (out .exit) ≡ outAfter (traceAt (now (rec .entry)) k) (now (out .entry)))
+        × (now (work .exit) ≡ clearedIf (beatSubtracted (now (rec .entry))) (now (work .entry))) ⌝ }
+{
+    let n = entries::sample_count(pointers::section_of(rec, 3), k);
+    lead_out(rec, k, tab, &mut room[..n], out, work)
+}
+
+// Lead k is read by the record's tables, in room of its own: small if it is short, since all of the room is cleared first.
 fn read_into(rec: &[u8], k: usize, out: &mut [i16], work: &mut [i16]) -> u8
     requires { ⌜ Readable (now rec) k (length (now work)) ⌝ }
     requires { ⌜ sampleCountAt (now rec) k ≤ length (now out) ⌝ }
@@ -168,9 +192,12 @@ fn read_into(rec: &[u8], k: usize, out: &mut [i16], work: &mut [i16]) -> u8
 {
     let mut tab = table_room();
     let held = hold_tables(rec, &mut tab);
-    let n = entries::sample_count(pointers::section_of(rec, 3), k);
+    if entries::sample_count(pointers::section_of(rec, 3), k) <= 8192 {
+        let mut room = small_room();
+        return read_in(rec, k, &tab[..held], &mut room, out, work);
+    }
     let mut room = sample_room();
-    lead_out(rec, k, &tab[..held], &mut room[..n], out, work)
+    read_in(rec, k, &tab[..held], &mut room, out, work)
 }
 
 // The room lent is enough for the lead at a place.

@@ -1,7 +1,7 @@
--- The room has as many elements as the lead has samples.
-use Prim.Native.Nat.{ℕ, _≤_}
+-- The room has as many elements as the lead has samples, or more: 8,192 where they are no more, else 65,536.
 use mathlib.Core.Path.{_≡_, sym, ap, _∙_}
 use mathlib.Core.List.{List}
+use Prim.Native.Nat.{ℕ, _≤_}
 use native.Mathlib.Omega.{arith}
 use lib.ListN.{length, take}
 use lib.Seq.{length-take-le}
@@ -33,33 +33,26 @@ section-of-requires c κs = search needs
 sample-count-requires : tie.Need-sample-count-requires
 sample-count-requires c κs = search needs
 
-sample-room-requires : tie.Need-sample-room-requires
-sample-room-requires c κs = search needs
+small-room-requires : tie.Need-small-room-requires
+small-room-requires c κs = search needs
 
 array-share-prefix-tab : tie.Need-array-share-prefix-tab
 array-share-prefix-tab c = search needs
 
-slice-aggregate-lead-out : tie.Need-slice-aggregate-lead-out
-slice-aggregate-lead-out c =
-    let held = c .before .before .before .before .before .hold-tables in
+slice-aggregate-read-in : tie.Need-slice-aggregate-read-in
+slice-aggregate-read-in c =
+    let held = c .before .before .before .before .before .before .hold-tables in
     let inside : held .result ≤ length (held .last .1 .0) = search needs in
     sym (length-take-le _ _ inside)
 
-array-borrow-prefix-room : tie.Need-array-borrow-prefix-room
-array-borrow-prefix-room c =
-    let start = c .before .before .before .before .before .before .before .before .before in
-    omega (arith, count (c .before .before), start .pre .0 .count)
+slice-aggregate-read-in-2 : tie.Need-slice-aggregate-read-in-2
+slice-aggregate-read-in-2 c = search needs
 
-slice-aggregate-lead-out-2 : tie.Need-slice-aggregate-lead-out-2
-slice-aggregate-lead-out-2 c = sym (length-take-le _ _ (array-borrow-prefix-room (c .before)))
-
-lead-out-requires : tie.Need-lead-out-requires
-lead-out-requires c κs =
-    let d = c .before .before .before .before .before .before .before .before .before .before .before .before in
-    let room = length-take-le _ _ (array-borrow-prefix-room (c .before .before .before)) in (
-      c .before .before .before .before .before .before .before .before .hold-tables .ensures .1,
-      (d .pre .0, (room ∙ count (c .before .before .before .before .before), d .pre .1)),
-    )
+read-in-requires : tie.Need-read-in-requires
+read-in-requires c κs =
+    let counted = c .before .before .before .before .before .before in
+    let start = counted .before .before .before .before .before .before .before in
+    (counted .before .before .before .hold-tables .ensures .1, (start .pre .0, (omega (arith, count counted, start .pre .0 .count), start .pre .1)))
 
 same-length : tie.Need-same-length
 same-length c = search needs
@@ -70,6 +63,36 @@ same-length-2 c = search needs
 returns : tie.Need-returns
 returns c = search needs
 
+sample-room-requires : tie.Need-sample-room-requires
+sample-room-requires c κs = search needs
+
+array-share-prefix-tab-2 : tie.Need-array-share-prefix-tab-2
+array-share-prefix-tab-2 c = search needs
+
+slice-aggregate-read-in-3 : tie.Need-slice-aggregate-read-in-3
+slice-aggregate-read-in-3 c =
+    let held = c .before .before .before .before .before .before .hold-tables in
+    let inside : held .result ≤ length (held .last .1 .0) = search needs in
+    sym (length-take-le _ _ inside)
+
+slice-aggregate-read-in-4 : tie.Need-slice-aggregate-read-in-4
+slice-aggregate-read-in-4 c = search needs
+
+read-in-requires-2 : tie.Need-read-in-requires-2
+read-in-requires-2 c κs =
+    let counted = c .before .before .before .before .before .before in
+    let start = counted .before .before .before .before .before .before .before in
+    (counted .before .before .before .hold-tables .ensures .1, (start .pre .0, (omega (arith, count counted, start .pre .0 .count), start .pre .1)))
+
+same-length-3 : tie.Need-same-length-3
+same-length-3 c = search needs
+
+same-length-4 : tie.Need-same-length-4
+same-length-4 c = search needs
+
+returns-2 : tie.Need-returns-2
+returns-2 c = search needs
+
 pub read-into-spec : {M : Type 1} → statement M
 read-into-spec =
     tie.close
@@ -79,12 +102,19 @@ read-into-spec =
     hold-tables-requires
     section-of-requires
     sample-count-requires
-    sample-room-requires
+    small-room-requires
     array-share-prefix-tab
-    slice-aggregate-lead-out
-    array-borrow-prefix-room
-    slice-aggregate-lead-out-2
-    lead-out-requires
+    slice-aggregate-read-in
+    slice-aggregate-read-in-2
+    read-in-requires
     same-length
     same-length-2
-    returns)
+    returns
+    sample-room-requires
+    array-share-prefix-tab-2
+    slice-aggregate-read-in-3
+    slice-aggregate-read-in-4
+    read-in-requires-2
+    same-length-3
+    same-length-4
+    returns-2)
