@@ -152,6 +152,42 @@ class Leads(Case):
         self.assertIsInstance(samples, array)
         self.assertEqual((samples.typecode, len(samples), samples[1]), ("h", 26, 119))
 
+    def extremes(self) -> tigmavresh.Lead:
+        """A lead with the extreme samples, and the largest step."""
+        leads = [tigmavresh.NewLead(1, [-32768, 32767, 0, 1, -1])]
+        return tigmavresh.open(tigmavresh.write(Fields.FIELDS, leads, step=65535, interval=1, order=0)).lead(1)
+
+    def voltages(self):
+        """Holds voltages to the samples and steps, which they leave as they are; answers those of `extremes`."""
+        for name in WITH_LEADS:
+            lead = tigmavresh.open(sample(name)).lead(1)
+            self.assertEqual(lead.nanovolts().tolist(), [one * lead.step for one in lead.samples.tolist()])
+        self.assertEqual(tigmavresh.open(sample("beat")).lead(2).nanovolts().tolist()[:3], [140_000, 595_000, 400_000])
+        lead = self.extremes()
+        kind = type(lead.samples)
+        found = lead.nanovolts()
+        self.assertEqual(found.tolist(), [-2_147_450_880, 2_147_385_345, 0, 65_535, -65_535])
+        found[0] = 7
+        self.assertEqual((lead.samples.tolist(), lead.step), ([-32768, 32767, 0, 1, -1], 65535))
+        self.assertEqual((type(lead.samples), lead.samples.itemsize), (kind, 2))
+        self.assertEqual(lead.nanovolts().tolist()[0], -2_147_450_880, "asked twice")
+        return found
+
+    @unittest.skipUnless(numpy, "numpy is not installed")
+    def test_voltages_by_numpy(self):
+        found = self.voltages()
+        self.assertIsInstance(found, numpy.ndarray)
+        self.assertEqual((found.dtype, found.shape), (numpy.int32, (5,)))
+
+    def test_voltages_without_numpy(self):
+        kept, tigmavresh.reading.numpy = tigmavresh.reading.numpy, None
+        try:
+            found = self.voltages()
+        finally:
+            tigmavresh.reading.numpy = kept
+        self.assertIsInstance(found, array)
+        self.assertEqual((found.typecode, found.itemsize), ("i", 4))
+
     def test_threads_read_side_by_side(self):
         records = [tigmavresh.open(sample(name)) for name in WITH_LEADS]
         alone = [[record.lead(1).samples.tolist()] * 20 for record in records]

@@ -7,7 +7,8 @@
     record.field(2)                 # the patient identifier, byte for byte
     for tag, data in record: ...    # every header field
     lead = record.lead(1)
-    lead.samples, lead.step         # whole numbers, and the nanovolts that each of them counts
+    lead.nanovolts()                # the voltages: every sample times the step, in 32 bits
+    lead.samples, lead.step         # the same apart; 16 bits, as the samples have, are too few for their product
 
 Whether a record is accepted, and every number answered, is the library's word: this module lends it memory and adds no
 judgement of its own. What is refused raises `Refused`, with the number of the rule that is broken.

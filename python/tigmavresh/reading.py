@@ -78,7 +78,17 @@ class Lead:
     flags: int
     """The flags of Section 3, for all leads; bit 0: a reference beat was subtracted."""
     samples: Samples
-    """The samples: an int16 array of numpy where that is installed, else an `array('h')`."""
+    """The samples: an int16 array of numpy where that is installed, else an `array('h')`. `nanovolts` gives the voltages."""
+
+    def nanovolts(self) -> Samples:
+        """The voltages, exact: each sample times the step, in 32 bits, which hold every product.
+
+        They are an int32 array of numpy where that is installed, else an `array('i')`; `samples` stay as they are. 16 bits
+        are too few: `samples * step` is cut to them by numpy, and repeats an `array`.
+        """
+        if numpy is None:
+            return array("i", (sample * self.step for sample in self.samples))
+        return numpy.asarray(self.samples).astype(numpy.int32) * numpy.int32(self.step)
 
     @property
     def last(self) -> int:
