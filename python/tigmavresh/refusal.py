@@ -19,7 +19,7 @@ class Refused(Exception):
         return RULES[self.number]
 
     def __str__(self) -> str:
-        return f"{self.number}: {self.rule}"
+        return f"refused, number {self.number}; the rule: {self.rule}"
 
 
 def check(number: int) -> None:
