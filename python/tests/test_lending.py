@@ -2,7 +2,9 @@
 
 from __future__ import annotations
 
+import io
 import mmap
+import tempfile
 import unittest
 from array import array
 
@@ -73,6 +75,20 @@ class Bytes(Case):
                 lambda wrong: tigmavresh.encode([1], 0, wrong),
             ]:
                 self.assertRaises(TypeError, call, wrong)
+
+
+    def test_a_path_or_a_file_is_no_record(self):
+        path = SAMPLES / "007.scp"
+        with open(path, "rb") as file, open(path, encoding="latin-1") as text, tempfile.NamedTemporaryFile() as kept:
+            for wrong in [str(path), path, file, text, kept, io.BytesIO(sample("007"))]:
+                for call in [tigmavresh.open, tigmavresh.Record]:
+                    with self.assertRaises(TypeError) as caught:
+                        call(wrong)
+                    words = str(caught.exception)
+                    self.assertIn("open takes a record's bytes, not a path or an open file", words)
+                    self.assertIn(f"this is {type(wrong).__name__}", words)
+                    self.assertIn("Path(name).read_bytes()", words)
+        self.assertEqual(tigmavresh.open(path.read_bytes()).data, sample("007"))
 
 
 class Numbers(Case):

@@ -1,9 +1,9 @@
 """Opens, checks and writes SCP-ECG records by the proved library.
 
+    from pathlib import Path
     import tigmavresh
 
-    with open("record.scp", "rb") as file:
-        record = tigmavresh.open(file.read())
+    record = tigmavresh.open(Path("record.scp").read_bytes())
     record.field(2)                 # the patient identifier, byte for byte
     for tag, data in record: ...    # every header field
     lead = record.lead(1)

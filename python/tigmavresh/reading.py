@@ -7,7 +7,7 @@ from array import array
 from dataclasses import dataclass
 from typing import Iterator, NamedTuple, Union
 
-from ._lending import Bytes, bytes_of, number, size
+from ._lending import Bytes, bytes_of, number, record_of, size
 from ._library import SCP_POINTERS_ROOM, SCP_SAMPLES_MAX, scp
 from .refusal import check
 
@@ -100,7 +100,7 @@ class Record:
     """A record that was opened. Iterating over it walks over its header fields, in the order that they stand in."""
 
     def __init__(self, data: Bytes) -> None:
-        self._data = bytes_of(data)
+        self._data = record_of(data)
         room = (ctypes.c_uint32 * SCP_POINTERS_ROOM)()
         opened = scp.scp_open(self._data, len(self._data), room)
         check(opened.refusal)
@@ -165,7 +165,7 @@ def _samples(room: ctypes.Array[ctypes.c_int16]) -> Samples:
 
 
 def open(data: Bytes) -> Record:
-    """Opens a record. Refused with the smallest of 1 to 6 that applies."""
+    """Opens a record of its bytes, which `pathlib.Path(name).read_bytes()` gives. Refused with the smallest of 1 to 6 that applies."""
     return Record(data)
 
 
