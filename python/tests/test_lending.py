@@ -143,6 +143,21 @@ class Samples(Case):
         for wrong in [32768, -32769, 2**70]:
             self.assertRaises(OverflowError, self.stream, [0, wrong])
 
+    def test_the_words_name_the_sample(self):
+        for values, place in [([1, 2, 40000], 3), ([-32769, 0, 40000], 1), ([32767, 2**70, "1"], 2)]:
+            expected = f"sample at place {place}: {values[place - 1]} is outside -32768 to 32767"
+            for kind in [values, tuple(values), iter(values), (value for value in values)]:
+                with self.assertRaises(OverflowError) as caught:
+                    self.stream(kind)
+                self.assertEqual(str(caught.exception), expected)
+            leads = [tigmavresh.NewLead(1, [0]), tigmavresh.NewLead(2, iter(values), first=100)]
+            with self.assertRaises(OverflowError) as caught:
+                tigmavresh.write([], leads, step=1, interval=1, order=0)
+            self.assertEqual(str(caught.exception), f"lead at place 2, {expected}")
+        for kind in [array("q", [0, -40000]), array("H", [0, 65535]), memoryview(array("i", [0, 32768]))]:
+            with self.assertRaisesRegex(OverflowError, f"^sample at place 2: {kind[1]} is outside -32768 to 32767$"):
+                self.stream(kind)
+
     def test_what_is_no_samples(self):
         for wrong in [None, 5, "12", b"12", bytearray(2), [1.0], ["1"], [None], [[1]]]:
             self.assertRaises(TypeError, self.stream, wrong)
@@ -155,3 +170,5 @@ class Samples(Case):
         self.assertRaises(TypeError, self.stream, numpy.array([1.0]))
         self.assertRaises(TypeError, self.stream, numpy.array([[1], [2]], dtype="int16"))
         self.assertRaises(OverflowError, self.stream, numpy.array([40000]))
+        with self.assertRaisesRegex(OverflowError, "^sample at place 2: 40000 is outside -32768 to 32767$"):
+            self.stream(numpy.array([0, 40000]))

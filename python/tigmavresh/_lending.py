@@ -45,8 +45,11 @@ def size(name: str, value: Any) -> int:
     return number(name, value, 64)
 
 
-def samples_of(samples: Iterable[int]) -> array[int]:
-    """Samples of 16 bits, from an array of numpy or of the module `array`, a list, or any other whole numbers."""
+def samples_of(samples: Iterable[int], of: str = "") -> array[int]:
+    """Samples of 16 bits, from an array of numpy or of the module `array`, a list, or any other whole numbers.
+
+    A sample that does not fit is named by its place, from 1, after the words on what it is of.
+    """
     if isinstance(samples, (bytes, bytearray)):
         raise TypeError("samples are whole numbers, not bytes")
     try:
@@ -55,4 +58,11 @@ def samples_of(samples: Iterable[int]) -> array[int]:
         view = None
     if view is not None and view.format == "h" and view.ndim == 1:
         return array("h", view.tobytes())
-    return array("h", iter(samples))
+    values = list(samples)
+    try:
+        return array("h", values)
+    except OverflowError:
+        for place, value in enumerate(map(operator.index, values), 1):
+            if not -32768 <= value <= 32767:
+                raise OverflowError(f"{of}sample at place {place}: {value} is outside -32768 to 32767") from None
+        raise

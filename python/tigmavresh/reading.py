@@ -165,7 +165,10 @@ def _samples(room: ctypes.Array[ctypes.c_int16]) -> Samples:
 
 
 def open(data: Bytes) -> Record:
-    """Opens a record of its bytes, which `pathlib.Path(name).read_bytes()` gives. Refused with the smallest of 1 to 6 that applies."""
+    """Opens a record of its bytes: those of a file are `pathlib.Path(name).read_bytes()`.
+
+    Refused with the smallest of 1 to 6 that applies.
+    """
     return Record(data)
 
 

@@ -79,7 +79,10 @@ def write(
     applies of 17, 6, 7, 15 and 16.
     """
     section1, tables = _section1(fields), bytes_of(section2)
-    listed = [(number("id", lead.id, 8), number("first", lead.first, 32), samples_of(lead.samples)) for lead in leads]
+    listed = [
+        (number("id", lead.id, 8), number("first", lead.first, 32), samples_of(lead.samples, f"lead at place {place}, "))
+        for place, lead in enumerate(leads, 1)
+    ]
     ids = bytes(id for id, _, _ in listed)
     firsts = array("I", (first for _, first, _ in listed))
     counts = array("I", (len(samples) for _, _, samples in listed))
