@@ -32,6 +32,25 @@ def section_data(data: bytes, section: int) -> bytes:
     return data[pointer.index + 15 : pointer.index + pointer.length - 1]
 
 
+def checked(data: bytes) -> bytes:
+    """A section or a record with its check made over what follows it."""
+    return tigmavresh.crc(data[2:]).to_bytes(2, "little") + data[2:]
+
+
+def changed(data: bytes, section: int, at: int, new: bytes) -> bytes:
+    """An accepted record with some of a section's data changed, and its checks put right."""
+    pointer = tigmavresh.open(data).pointers[section]
+    start, end = pointer.index - 1, pointer.index - 1 + pointer.length
+    at += start + 16
+    part = data[start:at] + new + data[at + len(new) : end]
+    return checked(data[:start] + checked(part) + data[end:])
+
+
+def without(data: bytes, section: int) -> bytes:
+    """An accepted record with the pointer to a section emptied."""
+    return changed(data, 0, 10 * section + 2, bytes(8))
+
+
 class Case(unittest.TestCase):
     """A test case that asks for refusals."""
 

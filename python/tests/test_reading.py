@@ -9,7 +9,7 @@ import unittest
 from array import array
 
 import tigmavresh
-from common import ACCEPTED, SAMPLES, WITH_LEADS, Case, sample, tool
+from common import ACCEPTED, SAMPLES, WITH_LEADS, Case, changed, sample, tool, without
 
 try:
     import numpy
@@ -125,9 +125,28 @@ class Leads(Case):
             self.refused(10, record.entry, place)
 
     def test_a_record_without_leads(self):
-        record = tigmavresh.open(sample("007"))
+        for name in ["007", "7", "makers-sections"]:
+            record = tigmavresh.open(sample(name))
+            self.assertEqual((record.pointers[3].length, record.pointers[6].length), (0, 0), name)
+            self.assertEqual(record.leads(), [])
+            self.refused(10, record.lead, 1)
+            self.refused(10, record.entry, 1)
+
+    def test_leads_without_their_samples(self):
+        record = tigmavresh.open(sample("refused-10"))
+        self.assertGreater(record.pointers[3].length, 0)
+        self.assertEqual(record.pointers[6].length, 0)
         self.refused(10, record.leads)
-        self.refused(10, record.lead, 1)
+
+    def test_samples_without_their_leads(self):
+        self.refused(8, tigmavresh.open(without(sample("two-leads"), 3)).leads)
+
+    def test_no_leads_and_a_fault(self):
+        given = {"step": 1, "interval": 1, "order": 0, "section2": tigmavresh.DEFAULT_TABLE}
+        data = tigmavresh.write(Fields.FIELDS, [tigmavresh.NewLead(1, [0])], **given)
+        bare = without(without(data, 6), 3)
+        self.assertEqual(tigmavresh.open(bare).leads(), [])
+        self.refused(7, tigmavresh.open(changed(bare, 2, 0, b"\0\0")).leads)
 
     def test_samples_are_the_callers_own(self):
         record = tigmavresh.open(sample("two-leads"))

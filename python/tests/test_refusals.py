@@ -6,12 +6,7 @@ import pickle
 import re
 
 import tigmavresh
-from common import ACCEPTED, REFUSED, SAMPLES, TOP, WITH_LEADS, Case, sample
-
-
-def mended(data: bytes) -> bytes:
-    """Bytes with the record's check made over them."""
-    return tigmavresh.crc(data[2:]).to_bytes(2, "little") + data[2:]
+from common import ACCEPTED, REFUSED, SAMPLES, TOP, WITH_LEADS, Case, checked, sample
 
 
 class Words(Case):
@@ -81,7 +76,7 @@ class Damage(Case):
             damaged = bytearray(data)
             damaged[at] ^= 0x10
             with self.assertRaises(tigmavresh.Refused) as caught:
-                tigmavresh.open(mended(damaged))
+                tigmavresh.open(checked(damaged))
             self.assertIn(caught.exception.number, (3, 4, 5))
             if at >= section1.index + 15:
                 self.assertEqual(caught.exception.number, 5)

@@ -9,7 +9,7 @@ from typing import Iterator, NamedTuple, Union
 
 from ._lending import Bytes, bytes_of, number, record_of, size
 from ._library import SCP_POINTERS_ROOM, SCP_SAMPLES_MAX, scp
-from .refusal import check
+from .refusal import Refused, check
 
 try:
     import numpy
@@ -142,8 +142,16 @@ class Record:
         return Entry(*(getattr(said, name) for name in Entry._fields))
 
     def leads(self) -> list[Entry]:
-        """What the record says of each lead, in the order of Section 3. Refused with 7 to 9, and with 10 if it has none."""
-        first = self.entry(1)
+        """What the record says of each lead, in the order of Section 3; of a record with neither Section 3 nor 6, nothing.
+
+        Refused with 7 to 9, and with 10 if Section 3 is there and Section 6 is not: leads are named, and have no samples.
+        """
+        try:
+            first = self.entry(1)
+        except Refused as refused:
+            if refused.number == 10 and not self.pointers[3].length and not self.pointers[6].length:
+                return []
+            raise
         return [first] + [self.entry(place) for place in range(2, first.leads + 1)]
 
     def lead(self, place: int) -> Lead:
