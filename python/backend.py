@@ -1,7 +1,8 @@
 """Makes the wheel of tigmavresh, for pip (PEP 517): `pip install ./python` calls build_wheel.
 
-A wheel is a zip of the module and of some notes on it, so this needs no other package and no network. Two files of the module
-are made here: libscp.so of the proved archive, and _rules.py, the words of the refusals, of those that the Rust code has.
+A wheel is a zip of the module and of some notes on it, so this needs no other package and no network. Three files of the
+module are made here: libscp.so of the proved archive; _rules.py, the words of the refusals, of those that the Rust code has;
+and _version.py, of the tool's version.
 
 `python3 python/backend.py FOLDER` writes the wheel without pip.
 """
@@ -19,11 +20,21 @@ import zipfile
 from pathlib import Path
 from typing import Any, Optional
 
-NAME, VERSION, TAG = "tigmavresh", "0.1.0", "py3-none-linux_x86_64"
-NOTES = f"{NAME}-{VERSION}.dist-info"
-
 HERE = Path(__file__).resolve().parent
 RULES = HERE.parent / "rust/scp/src/refusal.rs"
+TOOL = HERE.parent / "rust/tool/Cargo.toml"
+
+
+def version() -> str:
+    """The tool's version, which is the module's."""
+    found = re.search(r'^version = "(.*)"$', TOOL.read_text(), re.MULTILINE)
+    if not found:
+        raise SystemExit(f"{TOOL}: the tool's version is not found there")
+    return found[1]
+
+
+NAME, VERSION, TAG = "tigmavresh", version(), "py3-none-linux_x86_64"
+NOTES = f"{NAME}-{VERSION}.dist-info"
 
 METADATA = f"""\
 Metadata-Version: 2.1
@@ -55,6 +66,7 @@ def make_wheel(folder: Path) -> str:
     sources = [*sorted((HERE / NAME).glob("*.py")), HERE / NAME / "py.typed"]
     files = {f"{NAME}/{path.name}": path.read_bytes() for path in sources}
     files[f"{NAME}/_rules.py"] = rules().encode()
+    files[f"{NAME}/_version.py"] = f'"""The version of the module and of the tool."""\n\n__version__ = {VERSION!r}\n'.encode()
     files[f"{NAME}/libscp.so"] = library()
     files[f"{NOTES}/METADATA"] = METADATA.encode()
     files[f"{NOTES}/WHEEL"] = WHEEL.encode()

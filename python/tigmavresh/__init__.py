@@ -17,6 +17,7 @@ Bytes that are lent are never changed. What is not `bytes` (a `bytearray`, a `me
 record is what it was when it was opened. Calls may be made from any number of threads, and run side by side.
 """
 
+from ._version import __version__
 from .reading import Entry, Field, Lead, Pointer, Record, breaks, crc, open, same_identifier
 from .refusal import Refused
 from .writing import DEFAULT_TABLE, Coded, NewLead, encode, write
@@ -31,6 +32,7 @@ __all__ = [
     "Pointer",
     "Record",
     "Refused",
+    "__version__",
     "breaks",
     "crc",
     "encode",

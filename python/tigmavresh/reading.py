@@ -26,59 +26,72 @@ _BEAT = 1
 
 
 class Pointer(NamedTuple):
-    """A pointer of Section 0, as it is stored."""
+    """A pointer of Section 0, as it is stored.
+
+    id: The section's number.
+    length: The section's bytes with its header; 0 if it is absent.
+    index: Where its first byte stands in the record, counted from 1. Any number if it is absent.
+    """
 
     id: int
     length: int
-    """The section's bytes with its header; 0 if it is absent."""
     index: int
-    """Where its first byte stands in the record, counted from 1. Any number if it is absent."""
 
 
 class Field(NamedTuple):
-    """A header field of Section 1."""
+    """A header field of Section 1.
+
+    tag: The field's tag, 0 to 254: 2 is the patient identifier's.
+    data: The field's bytes, as they are stored.
+    """
 
     tag: int
     data: bytes
 
 
 class Entry(NamedTuple):
-    """What a record says of a lead, its stream unread."""
+    """What a record says of a lead, its stream unread.
+
+    id: The lead's ID: 1 is lead I, 2 is lead II.
+    first: The number of the first sample.
+    last: The number of the last sample.
+    step: The nanovolts that a sample of 1 stands for.
+    interval: The microseconds between two samples.
+    order: The order of the differences that are stored: 0, 1 or 2.
+    flags: The flags of Section 3, for all leads; bit 0: a reference beat was subtracted.
+    bytes: How many bytes the lead's stream has in Section 6.
+    leads: How many leads the record has.
+    """
 
     id: int
     first: int
-    """The number of the first sample."""
     last: int
-    """The number of the last sample."""
     step: int
-    """The nanovolts that a sample of 1 stands for."""
     interval: int
-    """The microseconds between two samples."""
     order: int
-    """The order of the differences that are stored: 0, 1 or 2."""
     flags: int
-    """The flags of Section 3, for all leads; bit 0: a reference beat was subtracted."""
     bytes: int
-    """How many bytes the lead's stream has in Section 6."""
     leads: int
-    """How many leads the record has."""
 
 
 @dataclass(frozen=True, eq=False)
 class Lead:
-    """A lead that was read: every sample as it was before it was coded, a reference beat added back."""
+    """A lead that was read: every sample as it was before it was coded, a reference beat added back.
+
+    id: The lead's ID: 1 is lead I, 2 is lead II.
+    first: The number of the first sample.
+    step: The nanovolts that a sample of 1 stands for.
+    interval: The microseconds between two samples.
+    flags: The flags of Section 3, for all leads; bit 0: a reference beat was subtracted.
+    samples: An int16 array of numpy where that is installed, else an `array('h')`. `nanovolts` gives the voltages.
+    """
 
     id: int
     first: int
-    """The number of the first sample."""
     step: int
-    """The nanovolts that a sample of 1 stands for."""
     interval: int
-    """The microseconds between two samples."""
     flags: int
-    """The flags of Section 3, for all leads; bit 0: a reference beat was subtracted."""
     samples: Samples
-    """The samples: an int16 array of numpy where that is installed, else an `array('h')`. `nanovolts` gives the voltages."""
 
     def nanovolts(self) -> Samples:
         """The voltages, exact: each sample times the step, in 32 bits, which hold every product.
@@ -97,7 +110,10 @@ class Lead:
 
 
 class Record:
-    """A record that was opened. Iterating over it walks over its header fields, in the order that they stand in."""
+    """A record that was opened. Iterating over it walks over its header fields, in the order that they stand in.
+
+    pointers: The pointers of Section 0, as they are stored.
+    """
 
     def __init__(self, data: Bytes) -> None:
         self._data = record_of(data)
@@ -105,7 +121,6 @@ class Record:
         opened = scp.scp_open(self._data, len(self._data), room)
         check(opened.refusal)
         self.pointers = tuple(Pointer(*room[at : at + 3]) for at in range(0, 3 * opened.count, 3))
-        """The pointers of Section 0, as they are stored."""
 
     @property
     def data(self) -> bytes:

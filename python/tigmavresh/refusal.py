@@ -6,12 +6,14 @@ from ._rules import RULES
 
 
 class Refused(Exception):
-    """The library refused. It has shown nothing and changed nothing."""
+    """The library refused. It has shown nothing and changed nothing.
+
+    number: The number of the rule that is broken, 1 to 17: the first that applies, in the order of the call.
+    """
 
     def __init__(self, number: int) -> None:
         super().__init__(number)
         self.number = number
-        """The number of the rule that is broken, 1 to 17: the first that applies, in the order of the call."""
 
     @property
     def rule(self) -> str:

@@ -17,20 +17,27 @@ _END_MARK = b"\xff\x00\x00"
 
 
 class Coded(NamedTuple):
-    """A lead that was coded."""
+    """A lead that was coded.
+
+    stream: The bytes of the stream.
+    bits: How many bits the codes take; the others of the last byte are 0.
+    """
 
     stream: bytes
     bits: int
-    """How many bits the codes take; the others of the last byte are 0."""
 
 
 class NewLead(NamedTuple):
-    """A lead to be written. A `Lead` that was read serves as well."""
+    """A lead to be written. A `Lead` that was read serves as well.
+
+    id: The lead's ID: 1 is lead I, 2 is lead II.
+    samples: Whole numbers of 16 bits, -32768 to 32767.
+    first: The number of the first sample.
+    """
 
     id: int
     samples: Iterable[int]
     first: int = 1
-    """The number of the first sample."""
 
 
 class _AnyLead(Protocol):
