@@ -68,7 +68,7 @@ impl TryFrom<u8> for Refusal {
 
 impl fmt::Display for Refusal {
     fn fmt(&self, f: &mut fmt::Formatter<'_>) -> fmt::Result {
-        write!(f, "{}: {}", self.number(), self.words())
+        write!(f, "{}, rule broken: {}", self.number(), self.words())
     }
 }
 
@@ -103,6 +103,12 @@ mod tests {
             assert!(!words[..place].contains(one), "{one}");
             assert_ne!(*one, Refusal(18).words());
         }
+    }
+
+    #[test]
+    fn the_words_are_told_as_a_rule_that_is_broken() {
+        let told = Refusal(13).to_string();
+        assert_eq!(told, "13, rule broken: every sample fits 16 bits");
     }
 
     #[test]

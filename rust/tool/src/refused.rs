@@ -11,6 +11,9 @@ use crate::output::{shown, Output};
 /// How many things found are shown; a record can break one rule in a great many places.
 const FOUND_SHOWN: usize = 8;
 
+/// What a rule's words are headed by, so that nobody takes them for what was found.
+pub const BROKEN: &str = "rule broken";
+
 /// Whose word a refusal is, and whose its explanation.
 pub const NOTE: &str = "The refusal is the proved library's; what was found is the tool's own look at the bytes, to explain it.";
 
@@ -41,7 +44,7 @@ pub fn lines(input: &Input, place: usize, refusal: Refusal) -> Vec<String> {
 
 /// What the rule asks, and this that was found, in lines.
 pub fn told(refusal: Refusal, found: &[String]) -> Vec<String> {
-    let mut lines = vec![format!("  rule   {}", refusal.words())];
+    let mut lines = vec![line(BROKEN, refusal.words())];
     lines.extend(found_lines(found));
     lines
 }
@@ -51,14 +54,19 @@ pub fn found_lines(found: &[String]) -> Vec<String> {
     let mut lines = Vec::new();
     let mut label = "found";
     for one in found.iter().take(FOUND_SHOWN) {
-        lines.push(format!("  {label:5}  {one}"));
+        lines.push(line(label, one));
         label = "";
     }
     if found.len() > FOUND_SHOWN {
         let more = found.len() - FOUND_SHOWN;
-        lines.push(format!("         and {more} more"));
+        lines.push(line("", &format!("and {more} more")));
     }
     lines
+}
+
+/// A line with a label.
+fn line(label: &str, words: &str) -> String {
+    format!("  {label:width$}  {words}", width = BROKEN.len())
 }
 
 /// All that was found.

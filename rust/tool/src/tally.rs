@@ -8,7 +8,7 @@ use scp::Refusal;
 use crate::status::Status;
 use crate::table::{self, numbers, words, Column};
 
-const COLUMNS: [Column; 3] = [numbers("Number"), numbers("Files"), words("Rule")];
+const COLUMNS: [Column; 3] = [numbers("Number"), numbers("Files"), words("Rule broken")];
 
 /// Files, counted by how they fared.
 #[derive(Default)]

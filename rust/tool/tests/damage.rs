@@ -124,9 +124,9 @@ fn a_huge_file_is_not_read_whole() {
     let ran = run_in(&folder, &["check", "huge.scp", "empty.scp"]);
     assert_eq!((ran.status, ran.err.as_str()), (1, ""));
     for line in [
-        "huge.scp: refused, number 1 (4294967296 bytes): ",
+        "huge.scp: refused, number 1 (4294967296 bytes); rule broken: ",
         "found: the length is 4294967296 bytes, over 1048576\n",
-        "empty.scp: refused, number 1 (0 bytes): ",
+        "empty.scp: refused, number 1 (0 bytes); rule broken: ",
         "found: the length is 0 bytes, under 142\n",
     ] {
         assert!(ran.out.contains(line), "{line}\n{}", ran.out);

@@ -104,9 +104,9 @@ fn every_rule_that_is_broken_is_shown() {
     for lines in [
         "     5  section checks           kept\n     6  Section 1                broken\n",
         "     8  Sections 3 to 6          kept, as it seems\n     9  bimodal, step, interval  broken, as it seems\n",
-        "\nRule 6, Section 1: broken\n  rule   Section 1 is whole fields",
-        "\n  found  tag 2 has no NUL at its end\n",
-        "\nRule 9, bimodal, step, interval: broken, as it seems\n  found  the interval is 1000 in Section 5 and 2000",
+        "\nRule 6, Section 1: broken\n  rule broken  Section 1 is whole fields",
+        "\n  found        tag 2 has no NUL at its end\n",
+        "\nRule 9, bimodal, step, interval: broken, as it seems\n  found        the interval is 1000 in Section 5 and 2000",
         "\nNo lead is read: all are refused, number 6\n",
         "\nRules 7 to 9 were asked alone, of bytes that break rule 6: the answer is a hint, and not certain.\n",
         "\nThe answers are the proved library's; what was found is the tool's own look at the bytes, to explain them.\n",
@@ -132,7 +132,7 @@ fn every_lead_is_read() {
         assert!(ran.out.contains(&rows), "{}", ran.out);
         assert!(ran
             .out
-            .contains(&format!("\nLead 2, II: refused, number {number}\n  rule ")));
+            .contains(&format!("\nLead 2, II: refused, number {number}\n  rule broken  ")));
         let shown = run(&["report", &name, "--json"]).json();
         assert_eq!(broken(&shown), []);
         let leads = shown["leads"].as_array().unwrap();
@@ -141,7 +141,7 @@ fn every_lead_is_read() {
         assert!(leads[0].get("samples").is_none());
     }
     let ran = run(&["report", "refused-10.scp"]);
-    let text = "\nNo lead is read: all are refused, number 10\n  rule   what is asked for is in the record\n  found  Section 6 is absent\n";
+    let text = "\nNo lead is read: all are refused, number 10\n  rule broken  what is asked for is in the record\n  found        Section 6 is absent\n";
     assert!(ran.out.contains(text), "{}", ran.out);
 }
 

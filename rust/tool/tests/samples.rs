@@ -319,11 +319,11 @@ fn the_leads_of_each_sample_are_shown() {
 #[test]
 fn a_refusal_of_leads_is_explained() {
     for (name, found) in [
-        ("007.scp", "found  Section 3 is absent\n         Section 6 is absent\n"),
+        ("007.scp", "found        Section 3 is absent\n               Section 6 is absent\n"),
         ("refused-7.scp", "table 2, structure 3: its prefix 101 begins with structure 2's, 10"),
         ("refused-8.scp", "QRS 2: the zone starts at 10, and the one before it ends at 10"),
         ("refused-9.scp", "the interval is 1000 in Section 5 and 2000 in Section 6"),
-        ("refused-10.scp", "found  Section 6 is absent\n"),
+        ("refused-10.scp", "found        Section 6 is absent\n"),
         ("refused-12.scp", "Section 6, lead 2: no value for sample 13: the stream ends inside the code at bit 47 of 48"),
         ("refused-13.scp", "sample 6 is 32820 with beat sample 4 added"),
         ("refused-14.scp", "Section 6, lead 2: 12 bits are left of 64 after the last sample"),

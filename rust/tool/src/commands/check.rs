@@ -164,7 +164,8 @@ fn as_text(file: &Path, judged: &Judged) -> String {
     let heading = format!("{}: {}", shown(file), judged.verdict.told(judged.size));
     match (judged.verdict, &judged.found) {
         (Verdict::Refused { refusal, .. }, Some(found)) => {
-            format!("{heading}: {}; found: {found}", refusal.words())
+            let (broken, rule) = (refused::BROKEN, refusal.words());
+            format!("{heading}; {broken}: {rule}; found: {found}")
         }
         _ => heading,
     }
