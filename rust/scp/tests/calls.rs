@@ -65,7 +65,10 @@ fn refusals_have_a_number_and_words() {
     assert_eq!(number(scp::field(&record, 255, 1)), Err(10));
     assert_eq!(number(scp::walk_start(&record[1..])), Err(1));
     let refusal = scp::open(&[]).unwrap_err();
-    assert_eq!(refusal.to_string(), format!("1, rule broken: {}", refusal.words()));
+    assert_eq!(
+        refusal.to_string(),
+        format!("1, rule broken: {}", refusal.words())
+    );
     assert!(scp::fields(&[]).is_err());
 }
 

@@ -286,10 +286,37 @@ fn a_terminal_has_a_bar() {
     assert!(!ran.out.contains('\u{1b}'), "{}", ran.out);
     if let Some(ran) = run_on_terminal("check . --jobs 1") {
         assert_eq!(ran.status, 1);
-        assert!(ran.out.contains(" files, "), "{}", ran.out);
+        let bars = [" files so far: ", " files, "];
+        assert!(bars.iter().any(|bar| ran.out.contains(bar)), "{}", ran.out);
         assert!(ran
             .out
             .contains("./beat.scp: accepted (418 bytes; 2 leads)"));
+    }
+}
+
+/// Until the files are counted no total is shown, and then the right one; a single file has no bar.
+#[test]
+fn a_bar_has_no_wrong_total() {
+    let folder = Folder::new("bar");
+    for number in 0..2000 {
+        folder.file(&format!("{number}.scp"), &sample("beat.scp"));
+    }
+    let Some(ran) = run_on_terminal(&format!("check --refused {}", folder.path("."))) else {
+        return;
+    };
+    let shown = ran.out.split(['\r', '\n']);
+    let shown: Vec<&str> = shown.filter(|line| line.contains("files")).collect();
+    let (last, bars) = shown.split_last().unwrap();
+    assert!(last.contains("2000 files: 2000 accepted"), "{last}");
+    assert!(!bars.is_empty());
+    for bar in bars {
+        let counting = bar.contains(" files so far: ");
+        assert!(counting || bar.contains(" of 2000 files, "), "{bar}");
+    }
+    for words in ["check beat.scp", &format!("check {}", folder.path("7.scp"))] {
+        let one = run_on_terminal(words).unwrap();
+        assert!(!one.out.contains("files"), "{}", one.out);
+        assert!(!one.out.contains('\u{1b}'), "{}", one.out);
     }
 }
 

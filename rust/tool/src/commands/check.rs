@@ -20,7 +20,8 @@ use crate::verdict::{Room, Verdict};
 /// How many files are listed, checked and then shown: never more than these are held.
 const AT_ONCE: usize = 512;
 
-/// How the bar looks that a terminal shows.
+/// What a terminal shows until the files are counted, and the bar that it shows afterwards.
+const COUNTING: &str = "{spinner} files so far: {pos}";
 const BAR: &str = "{bar:40} {pos} of {len} files, {eta} left";
 
 /// What is to be shown.
@@ -78,18 +79,27 @@ pub fn run(paths: &[PathBuf], asked: Asked, jobs: Option<u16>, output: &mut Outp
     tally.status()
 }
 
-/// The bar that shows how far the work is, on a terminal; elsewhere one that is never drawn. A thread counts the files
-/// meanwhile.
+/// The bar that shows how far the work is, on a terminal and for more than one file; else one that is never drawn. A thread
+/// counts the files meanwhile, and until it has there is no total.
 fn bar(paths: &[PathBuf]) -> ProgressBar {
-    let bar = ProgressBar::new(0);
-    if let Ok(style) = ProgressStyle::with_template(BAR) {
+    let bar = ProgressBar::new_spinner();
+    if bar.is_hidden() || files::listed(paths).take(2).count() < 2 {
+        return ProgressBar::hidden();
+    }
+    set_style(&bar, COUNTING);
+    let (counted, paths) = (bar.clone(), paths.to_vec());
+    thread::spawn(move || {
+        counted.set_length(files::listed(&paths).count() as u64);
+        set_style(&counted, BAR);
+    });
+    bar
+}
+
+/// Makes a bar look like this.
+fn set_style(bar: &ProgressBar, template: &str) {
+    if let Ok(style) = ProgressStyle::with_template(template) {
         bar.set_style(style);
     }
-    if !bar.is_hidden() {
-        let (bar, paths) = (bar.clone(), paths.to_vec());
-        thread::spawn(move || files::listed(&paths).for_each(|_| bar.inc_length(1)));
-    }
-    bar
 }
 
 /// Checks some files, side by side; the answers are in their order.
