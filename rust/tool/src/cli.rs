@@ -101,6 +101,8 @@ pub enum Command {
     /// nanovolts, the interval between two samples in microseconds, the order of the
     /// differences stored, and how many bits a sample takes. The leads' streams are
     /// not read; samples does that.
+    ///
+    /// As JSON there is one object. Its refusal is null if the exit status is 0.
     #[command(verbatim_doc_comment, after_help = STATUS)]
     Leads {
         /// The record to show
@@ -120,6 +122,10 @@ pub enum Command {
     /// As CSV (RFC 4180) there is a column for each lead, and a row for each sample
     /// number that some lead has; refusals go to standard error, and the lead's
     /// column is headed by its refusal and empty.
+    ///
+    /// As JSON there is one object. Its refusal is null if the exit status is 0, and
+    /// else that of the record or of the first lead that is refused, with the place of
+    /// that as its lead; each lead that was read has its own refusal or null.
     #[command(verbatim_doc_comment, after_help = STATUS)]
     Samples {
         /// The record to show
@@ -174,6 +180,10 @@ pub enum Command {
     /// earlier one, the answer is a hint: bytes may stand elsewhere than it looks.
     /// Of a record that is too long the first rule alone is asked: not all of it is
     /// read.
+    ///
+    /// As JSON there is one object. Its refusal is null if the exit status is 0, and
+    /// else that of the record or of the first lead that is refused, with the place of
+    /// that as its lead; each lead that was read has its own refusal or null.
     #[command(verbatim_doc_comment, after_help = STATUS)]
     Report {
         /// The record to report on

@@ -33,12 +33,15 @@ pub struct Sized {
     bytes: Option<u64>,
 }
 
-/// A record: what it says of its leads, or its refusal.
+/// A record: what it says of its leads, or its refusal. The refusal of the first lead that is refused stands for the record.
 #[derive(Serialize)]
 pub struct Record {
     #[serde(flatten)]
     file: Sized,
     refusal: Option<Refused>,
+    /// The place of the lead that the refusal is of, if it is of one.
+    #[serde(skip_serializing_if = "Option::is_none")]
+    lead: Option<usize>,
     #[serde(flatten)]
     rhythm: Option<Rhythm>,
     /// Whose word a refusal is, if there is one.
@@ -77,7 +80,7 @@ pub struct Lead {
 }
 
 /// A refusal.
-#[derive(Serialize)]
+#[derive(Clone, Serialize)]
 pub struct Refused {
     number: u8,
     rule: &'static str,
@@ -132,10 +135,13 @@ impl Lead {
 
 impl Record {
     /// A record with these leads, of which the first says what all have in common.
-    pub fn accepted(file: &Path, input: &Input, first: &Entry, leads: Vec<Lead>) -> Record {
-        let refused = |lead: &Lead| matches!(lead.refusal, Some(Some(_)));
+    pub fn with(file: &Path, input: &Input, first: &Entry, leads: Vec<Lead>) -> Record {
+        let refused = |lead: &Lead| Some((lead.place, lead.refusal.clone()??));
+        let (lead, refusal) = leads.iter().find_map(refused).unzip();
         Record {
-            note: leads.iter().any(refused).then_some(refused::NOTE),
+            note: refusal.is_some().then_some(refused::NOTE),
+            refusal,
+            lead,
             rhythm: Some(Rhythm {
                 flags: first.flags,
                 reference_beat_subtracted: first.had_beat_subtracted(),
@@ -161,6 +167,7 @@ impl Record {
         Record {
             file: Sized::new(file, input.size),
             refusal: None,
+            lead: None,
             rhythm: None,
             note: None,
         }
@@ -225,6 +232,9 @@ impl Checked {
 pub struct Report {
     #[serde(flatten)]
     pub verdict: Checked,
+    /// What was found of the file as a whole, if anything was.
+    #[serde(skip_serializing_if = "Vec::is_empty")]
+    pub found: Vec<String>,
     pub rules: Vec<Rule>,
     pub leads: Vec<Lead>,
     /// What is not certain, if something is not.

@@ -107,7 +107,7 @@ fn every_rule_that_is_broken_is_shown() {
         "\nRule 6, Section 1: broken\n  rule broken  Section 1 is whole fields",
         "\n  found        tag 2 has no NUL at its end\n",
         "\nRule 9, bimodal, step, interval: broken, as it seems\n  found        the interval is 1000 in Section 5 and 2000",
-        "\nNo lead is read: all are refused, number 6\n",
+        "\nNo lead is read: the record is refused, number 6\n",
         "\nRules 7 to 9 were asked alone, of bytes that break rule 6: the answer is a hint, and not certain.\n",
         "\nThe answers are the proved library's; what was found is the tool's own look at the bytes, to explain them.\n",
     ] {
@@ -130,9 +130,9 @@ fn every_lead_is_read() {
         assert_eq!(ran.status, 1);
         let rows = format!("\n     1  I   accepted\n     2  II  refused, number {number}\n");
         assert!(ran.out.contains(&rows), "{}", ran.out);
-        assert!(ran
-            .out
-            .contains(&format!("\nLead 2, II: refused, number {number}\n  rule broken  ")));
+        assert!(ran.out.contains(&format!(
+            "\nLead 2, II: refused, number {number}\n  rule broken  "
+        )));
         let shown = run(&["report", &name, "--json"]).json();
         assert_eq!(broken(&shown), []);
         let leads = shown["leads"].as_array().unwrap();
@@ -141,7 +141,7 @@ fn every_lead_is_read() {
         assert!(leads[0].get("samples").is_none());
     }
     let ran = run(&["report", "refused-10.scp"]);
-    let text = "\nNo lead is read: all are refused, number 10\n  rule broken  what is asked for is in the record\n  found        Section 6 is absent\n";
+    let text = "\nNo lead is read: the record is refused, number 10\n  rule broken  what is asked for is in the record\n  found        Section 6 is absent\n";
     assert!(ran.out.contains(text), "{}", ran.out);
 }
 
@@ -163,6 +163,54 @@ fn all_leads_that_are_refused_are_shown() {
     for lead in shown["leads"].as_array().unwrap() {
         assert_eq!(lead["refusal"]["number"], 12, "{shown}");
     }
+}
+
+/// A record that is refused as a whole may have no lead: nothing is said of leads that are not there.
+#[test]
+fn a_refused_record_is_said_to_have_no_lead_read() {
+    let ran = run(&["report", "refused-5.scp"]);
+    let text = "\n\nNo lead is read: the record is refused, number 5\n\n";
+    assert!(ran.out.contains(text), "{}", ran.out);
+    assert!(!ran.out.contains("all are refused"), "{}", ran.out);
+}
+
+#[test]
+fn the_rules_that_are_not_certain_are_named() {
+    for (number, rules) in [
+        (8, "Rule 9 was"),
+        (7, "Rules 8 and 9 were"),
+        (6, "Rules 7 to 9 were"),
+    ] {
+        let ran = run(&["report", &format!("refused-{number}.scp")]);
+        let text = format!("\n{rules} asked alone, of bytes that break rule {number}: ");
+        assert!(ran.out.contains(&text), "{}", ran.out);
+    }
+}
+
+/// A file that is no record is said to be none first, and no rule has an empty explanation.
+#[test]
+fn a_file_that_is_no_record_is_said_to_be_none() {
+    let folder = Folder::new("foreign");
+    let words = "it seems to be no SCP-ECG record: bytes 17 to 22 are not the letters SCPECG";
+    for text in ["A letter to nobody. ".repeat(20), String::new()] {
+        let file = folder.file("letter.txt", text.as_bytes());
+        let ran = run(&["report", &file]);
+        let second = ran.out.lines().nth(1);
+        assert_eq!(second, Some(format!("  found        {words}").as_str()));
+        assert!(!ran.out.contains("nothing that"), "{}", ran.out);
+        assert!(
+            ran.out
+                .contains("\nRule 6, Section 1: broken, as it seems\n\n"),
+            "{}",
+            ran.out
+        );
+        assert!(ran.out.contains("what was found is the tool's own look"));
+        let shown = run(&["report", &file, "--json"]).json();
+        assert_eq!(shown["found"], json!([words]));
+        assert_eq!(shown["rules"][5]["found"], json!([]));
+    }
+    let shown = run(&["report", "refused-2.scp", "--json"]).json();
+    assert!(shown.get("found").is_none());
 }
 
 /// Of a file that is too long not all is read, and no more is asked than its length.

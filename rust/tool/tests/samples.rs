@@ -311,7 +311,7 @@ fn the_leads_of_each_sample_are_shown() {
             assert_eq!((ran.status, ran.err.as_str()), (status, ""), "{name}");
             let json: Value = serde_json::from_str(&ran.out).unwrap();
             assert_eq!(json["file"], name);
-            assert_eq!(json["refusal"].is_null(), !line.starts_with("refused"));
+            assert_eq!(json["refusal"].is_null(), status == 0);
         }
     }
 }
@@ -439,6 +439,14 @@ fn json_says_what_is_refused() {
     let shown = json(&["samples", "refused-12.scp", "--json"]);
     assert_eq!(shown["leads"][0]["samples"][1], 2);
     assert_eq!(shown["leads"][1]["refusal"]["number"], 12);
+    assert_eq!(shown["refusal"], shown["leads"][1]["refusal"]);
+    assert_eq!(shown["lead"], 2);
+    let report = json(&["report", "refused-12.scp", "--json"]);
+    for key in ["refusal", "lead"] {
+        assert_eq!(shown[key], report[key], "{key}");
+    }
+    let first = json(&["samples", "refused-12.scp", "--lead", "1", "--json"]);
+    assert!(first["refusal"].is_null() && first.get("lead").is_none());
     assert!(shown["leads"][1].get("samples").is_none());
     let shown = json(&["samples", "beat.scp", "--lead", "3", "--json"]);
     assert_eq!(shown["refusal"]["number"], 10);

@@ -53,7 +53,7 @@ fn as_json(file: &Path, input: &Input, leads: Result<Vec<Entry>, Refusal>) -> js
         Ok(leads) => {
             let lead = |(place, entry)| json::Lead::new(place, entry);
             let all = (1..).zip(&leads).map(lead).collect();
-            json::Record::accepted(file, input, &leads[0], all)
+            json::Record::with(file, input, &leads[0], all)
         }
         Err(refusal) => json::Record::refused(file, input, json::Refused::new(input, 1, refusal)),
     }

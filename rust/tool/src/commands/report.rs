@@ -25,9 +25,6 @@ const LEADS: [Column; 3] = [numbers("Lead"), words(""), words("Answer")];
 const NOTE: &str =
     "The answers are the proved library's; what was found is the tool's own look at the bytes, to explain them.";
 
-/// What is said where a rule seems broken and nothing of it is to be seen.
-const UNSEEN: &str = "nothing that could be pointed at, the bytes being as they are";
-
 /// What the library says of a rule, asked alone.
 struct Answer {
     /// The refusal of its rule.
@@ -35,6 +32,7 @@ struct Answer {
     is_broken: bool,
     /// Whether every rule before it is kept.
     is_certain: bool,
+    /// Nothing, where it is not certain and nothing can be pointed at.
     found: Vec<String>,
 }
 
@@ -123,9 +121,10 @@ fn answers(input: &Input) -> Vec<Answer> {
             refusal,
             is_broken,
             is_certain,
-            found: match is_broken {
-                true => explain::found_or(&looked, refusal, UNSEEN),
-                false => Vec::new(),
+            found: match (is_broken, is_certain) {
+                (true, true) => explain::found(&looked, refusal),
+                (true, false) => explain::seen(&looked, refusal),
+                (false, _) => Vec::new(),
             },
         };
         is_certain &= !is_broken;
@@ -162,13 +161,20 @@ impl<'a> Report<'a> {
         let first = self.answers.iter().find(|answer| answer.is_broken)?;
         let last = self.answers.last().filter(|last| !last.is_certain)?;
         let (broken, from, to) = (first.number(), first.number() + 1, last.number());
-        let rules = match from == to {
-            true => format!("Rule {to} was"),
-            false => format!("Rules {from} to {to} were"),
+        let rules = match to - from {
+            0 => format!("Rule {to} was"),
+            1 => format!("Rules {from} and {to} were"),
+            _ => format!("Rules {from} to {to} were"),
         };
         Some(format!(
             "{rules} asked alone, of bytes that break rule {broken}: the answer is a hint, and not certain."
         ))
+    }
+
+    /// What was found of the file as a whole.
+    fn found(&self) -> Vec<String> {
+        let foreign = explain::foreign(&self.input.bytes);
+        foreign.into_iter().collect()
     }
 
     /// Whose word is what, if something was found.
@@ -181,6 +187,7 @@ impl<'a> Report<'a> {
     fn show(&self, output: &mut Output) {
         let told = self.verdict.told(self.input.size);
         output.line(format_args!("{}: {told}", shown(self.file)));
+        output.lines(refused::found_lines(&self.found()));
         let rows: Vec<_> = self.answers.iter().map(rule_row).collect();
         output.lines(table::lines(&RULES, &rows));
         for answer in self.answers.iter().filter(|answer| answer.is_broken) {
@@ -208,7 +215,7 @@ impl<'a> Report<'a> {
             Verdict::Refused { refusal, .. } => {
                 let number = refusal.number();
                 output.line(format_args!(
-                    "No lead is read: all are refused, number {number}"
+                    "No lead is read: the record is refused, number {number}"
                 ));
                 if number > ALONE {
                     output.lines(refused::lines(self.input, 1, refusal));
@@ -250,6 +257,7 @@ impl<'a> Report<'a> {
         };
         json::Report {
             verdict: json::Checked::new(self.file, self.input.size, self.verdict, found),
+            found: self.found(),
             rules: self.answers.iter().map(rule).collect(),
             leads: self.leads.iter().map(lead).collect(),
             caution: self.caution(),

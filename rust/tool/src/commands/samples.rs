@@ -266,7 +266,7 @@ fn as_json(file: &Path, input: &Input, leads: &[Read]) -> json::Record {
         json::Lead::new(lead.place, &lead.entry).with(read)
     };
     let first = &leads[0].entry;
-    json::Record::accepted(file, input, first, leads.iter().map(lead).collect())
+    json::Record::with(file, input, first, leads.iter().map(lead).collect())
 }
 
 #[cfg(test)]

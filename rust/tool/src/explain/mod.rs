@@ -70,17 +70,23 @@ const ROWS: [Look; 14] = [
 
 /// What was found in a record that was refused, a line for each thing; at least one.
 pub fn found(looked: &Looked, refusal: Refusal) -> Vec<String> {
-    found_or(looked, refusal, NOTHING)
+    let seen = seen(looked, refusal);
+    if seen.is_empty() {
+        return vec![NOTHING.to_string()];
+    }
+    seen
 }
 
-/// What was found in a record that breaks a refusal's rule, asked alone; these words if there is nothing to be seen.
-pub fn found_or(looked: &Looked, refusal: Refusal, nothing: &str) -> Vec<String> {
+/// What is to be seen in a record that breaks a refusal's rule, asked alone; it may be nothing.
+pub fn seen(looked: &Looked, refusal: Refusal) -> Vec<String> {
     let row = usize::from(refusal.number()) - 1;
-    let found = ROWS.get(row).map_or_else(Vec::new, |look| look(looked));
-    if found.is_empty() {
-        return vec![nothing.to_string()];
-    }
-    found
+    ROWS.get(row).map_or_else(Vec::new, |look| look(looked))
+}
+
+/// That a file seems to be no SCP-ECG record, where it has not the letters that each has.
+pub fn foreign(record: &[u8]) -> Option<String> {
+    let words = "it seems to be no SCP-ECG record: bytes 17 to 22 are not the letters SCPECG";
+    (!sections::has_letters(record)).then(|| words.to_string())
 }
 
 /// Row 1: the length and the size field.

@@ -6,6 +6,8 @@ use crate::output::hex;
 
 /// Where Section 0 starts.
 const SECTION_0: u64 = 7;
+/// The letters in Section 0's header.
+const LETTERS: &[u8] = b"SCPECG";
 /// The bytes of a pointer.
 const POINTER: u64 = 10;
 /// How many pointers Section 0 has, at least and at most.
@@ -56,6 +58,16 @@ pub fn zero(record: &[u8]) -> Vec<String> {
     found
 }
 
+/// Whether the letters of Section 0 are there.
+pub fn has_letters(record: &[u8]) -> bool {
+    letters(record) == Some(LETTERS)
+}
+
+/// What stands where the letters are to be, if the record goes so far.
+fn letters(record: &[u8]) -> Option<&[u8]> {
+    part(record, SECTION_0 + 10, LETTERS.len() as u64)
+}
+
 /// Section 0's ID and letters.
 fn zero_header(record: &[u8]) -> Vec<String> {
     let mut found = Vec::new();
@@ -63,8 +75,8 @@ fn zero_header(record: &[u8]) -> Vec<String> {
         Some(0) | None => {}
         Some(id) => found.push(format!("Section 0's header has ID {id}, not 0")),
     }
-    match part(record, SECTION_0 + 10, 6) {
-        Some(b"SCPECG") | None => {}
+    match letters(record) {
+        Some(LETTERS) | None => {}
         Some(letters) => {
             let letters = hex(letters);
             found.push(format!(
