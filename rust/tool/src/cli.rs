@@ -7,7 +7,7 @@ use clap::{value_parser, Parser, Subcommand};
 use clap_complete::Shell;
 use scp::Refusal;
 
-/// What every command's help ends with.
+/// What the tool's help ends with, and that of a command for many records.
 const STATUS: &str = "\
 Exit status:
   0  every file was accepted
@@ -17,6 +17,22 @@ Exit status:
 
 A FILE of - is standard input. A file that is refused or cannot be read never
 stops the others.";
+
+/// What the help of a command for one record ends with.
+const ONE: &str = "\
+Exit status:
+  0  the record was accepted
+  1  it was refused, or some lead of it that was to be read
+  2  the work could not be done: the file could not be read, the answer not
+     written, or the command line is not understood
+
+A FILE of - is standard input.";
+
+/// What the help of a command ends with that reads no record.
+const NONE: &str = "\
+Exit status:
+  0  it was written
+  2  it could not be written, or the command line is not understood";
 
 /// What the help of a command ends with that writes a record.
 const WRITING: &str = "\
@@ -88,7 +104,7 @@ pub enum Command {
     /// length, its bytes in hex and, if they are printable ASCII, as text, a NUL being
     /// \0. The patient identifier is shown by its bytes like every other field:
     /// 30 30 37 00 and 37 00 are two identifiers.
-    #[command(verbatim_doc_comment, after_help = STATUS)]
+    #[command(verbatim_doc_comment, after_help = ONE)]
     Fields {
         /// The record to show
         #[arg(value_name = "FILE")]
@@ -103,7 +119,7 @@ pub enum Command {
     /// not read; samples does that.
     ///
     /// As JSON there is one object. Its refusal is null if the exit status is 0.
-    #[command(verbatim_doc_comment, after_help = STATUS)]
+    #[command(verbatim_doc_comment, after_help = ONE)]
     Leads {
         /// The record to show
         #[arg(value_name = "FILE")]
@@ -126,7 +142,7 @@ pub enum Command {
     /// As JSON there is one object. Its refusal is null if the exit status is 0, and
     /// else that of the record or of the first lead that is refused, with the place of
     /// that as its lead; each lead that was read has its own refusal or null.
-    #[command(verbatim_doc_comment, after_help = STATUS)]
+    #[command(verbatim_doc_comment, after_help = ONE)]
     Samples {
         /// The record to show
         #[arg(value_name = "FILE")]
@@ -184,7 +200,7 @@ pub enum Command {
     /// As JSON there is one object. Its refusal is null if the exit status is 0, and
     /// else that of the record or of the first lead that is refused, with the place of
     /// that as its lead; each lead that was read has its own refusal or null.
-    #[command(verbatim_doc_comment, after_help = STATUS)]
+    #[command(verbatim_doc_comment, after_help = ONE)]
     Report {
         /// The record to report on
         #[arg(value_name = "FILE")]
@@ -239,12 +255,12 @@ pub enum Command {
     /// Write the manual page, to be read by man
     ///
     /// For example: tigmavresh man >tigmavresh.1; man ./tigmavresh.1
-    #[command(verbatim_doc_comment, after_help = STATUS)]
+    #[command(verbatim_doc_comment, after_help = NONE)]
     Man,
     /// Write a shell's completions of these commands
     ///
     /// For example, in bash: source <(tigmavresh completions bash)
-    #[command(verbatim_doc_comment, after_help = STATUS)]
+    #[command(verbatim_doc_comment, after_help = NONE)]
     Completions {
         /// The shell
         #[arg(value_name = "SHELL")]

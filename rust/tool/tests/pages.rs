@@ -137,6 +137,23 @@ fn the_manual_has_every_command() {
     assert_eq!(ran.out.matches("OUT was written").count(), 2);
 }
 
+/// What a command's help ends with fits the command.
+#[test]
+fn the_help_of_a_command_is_its_own() {
+    let (others, input) = ("stops the others.\n", "A FILE of - is standard input.");
+    for command in commands() {
+        let help = run(&[&command, "--help"]).out;
+        let words = command.as_str();
+        let many = ["open", "check"].contains(&words);
+        assert_eq!(help.ends_with(others), many, "{help}");
+        let reads = many || ["fields", "leads", "samples", "report"].contains(&words);
+        assert_eq!(help.contains(input), reads, "{help}");
+        let refuses = !["man", "completions"].contains(&words);
+        assert_eq!(help.contains("\n  1  "), refuses, "{help}");
+        assert_eq!(help.matches("\nExit status:\n  0  ").count(), 1, "{help}");
+    }
+}
+
 /// Each example of README.md is what the tool shows, and each command stands there.
 #[test]
 fn the_readme_is_true() {
