@@ -4,6 +4,7 @@
 //! lines that explain a refusal, which say so ([`explain`]); a record that it writes is the library's, byte for byte.
 
 mod cli;
+mod closed;
 mod commands;
 mod explain;
 mod files;
@@ -21,6 +22,7 @@ mod table;
 mod tally;
 mod verdict;
 
+use std::io::Write;
 use std::process::ExitCode;
 
 use clap::Parser;
@@ -33,7 +35,10 @@ use status::Status;
 
 fn main() -> ExitCode {
     let mut output = Output::standard();
-    let asked = Cli::parse();
+    let asked = match Cli::try_parse() {
+        Ok(asked) => asked,
+        Err(told) => return end(&told, output).into(),
+    };
     let status = match (asked.explain, asked.command) {
         (Some(refusal), _) => rules::show(refusal, &mut output),
         (None, Some(command)) => run(command, &mut output),
@@ -41,6 +46,16 @@ fn main() -> ExitCode {
         (None, None) => Status::NotDone,
     };
     output.end(status).into()
+}
+
+/// Ends where the command line asks for help or for the version, or is not understood.
+fn end(told: &clap::Error, mut output: Output) -> Status {
+    if told.use_stderr() {
+        let _ = told.print();
+        return Status::NotDone;
+    }
+    output.write(|to| write!(to, "{}", told.render()));
+    output.end(Status::Accepted)
 }
 
 /// Does what a command asks for.

@@ -4,6 +4,7 @@ use std::fmt::Display;
 use std::io::{self, BufWriter, ErrorKind, Stdout, Write};
 use std::path::Path;
 
+use crate::closed;
 use crate::input;
 use crate::status::Status;
 
@@ -49,7 +50,7 @@ impl Output {
     /// Writes by a function that takes what it writes to.
     pub fn write(&mut self, write: impl FnOnce(&mut BufWriter<Stdout>) -> io::Result<()>) {
         self.began = true;
-        self.attempt(write);
+        self.attempt(|to| closed::fail_if_closed().and_then(|()| write(to)));
     }
 
     /// Sends what was shown so far on its way.

@@ -5,6 +5,7 @@ use std::io::{self, ErrorKind, IsTerminal, Write};
 use std::path::{Path, PathBuf};
 use std::process;
 
+use crate::closed;
 use crate::input;
 use crate::output::{shown, Output};
 
@@ -24,10 +25,11 @@ pub enum Target {
 }
 
 impl Target {
-    /// The place that a path names, if a record may be put there: standard output unless it is a terminal, a name that is not
-    /// taken or, with `force`, a file.
+    /// The place that a path names, if a record may be put there: standard output unless it is closed or a terminal, a name
+    /// that is not taken or, with `force`, a file.
     fn of(path: &Path, force: bool) -> io::Result<Target> {
         if input::is_standard(path) {
+            closed::fail_if_closed()?;
             return match io::stdout().is_terminal() {
                 true => Err(io::Error::other("a record is not written to a terminal")),
                 false => Ok(Target::Standard),

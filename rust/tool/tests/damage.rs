@@ -258,15 +258,33 @@ fn names_are_any_bytes() {
     );
 }
 
-/// A standard output that is closed from the start is nobody's loss: the status still tells of the files.
+/// An answer that goes to a standard output which is closed from the start is not written, and one to /dev/null is.
 #[test]
-fn a_closed_output_is_quiet() {
+fn a_closed_output_takes_no_answer() {
+    let closed = "tigmavresh: standard output: it is closed\n";
     for (words, status) in [
         (&["check", "007.scp"][..], 0),
+        (&["fields", "007.scp"], 0),
         (&["report", "refused-1.scp"], 1),
         (&["man"], 0),
+        (&["--explain", "1"], 0),
+        (&["--help"], 0),
+        (&["check", "--version"], 2),
+        (&["--version"], 0),
     ] {
         let ran = run_by_shell("exec \"$@\" >&-", words);
-        assert_eq!((ran.status, ran.err.as_str()), (status, ""), "{words:?}");
+        assert_eq!(ran.status, 2, "{words:?}");
+        if status < 2 {
+            assert_eq!(ran.err, closed, "{words:?}");
+        }
+        for open in ["exec \"$@\" >/dev/null", "exec \"$@\" <&- 1<>/dev/null"] {
+            let ran = run_by_shell(open, words);
+            assert_eq!(ran.status, status, "{words:?} {open}");
+            assert_eq!(ran.err.is_empty(), status < 2, "{words:?} {open}");
+        }
     }
+    let ran = run_by_shell("exec \"$@\" >&-", &["pack", "own-tables.scp", "-"]);
+    assert_eq!((ran.status, ran.err.as_str()), (2, closed));
+    let ran = run_by_shell("exec \"$@\" >&-", &["write", "job.json", "-"]);
+    assert_eq!((ran.status, ran.err.as_str()), (2, closed));
 }
