@@ -200,10 +200,11 @@ fn a_file_that_is_no_record_is_said_to_be_none() {
         assert!(!ran.out.contains("nothing that"), "{}", ran.out);
         assert!(
             ran.out
-                .contains("\nRule 6, Section 1: broken, as it seems\n\n"),
+                .contains("\n     6  Section 1                broken, as it seems\n"),
             "{}",
             ran.out
         );
+        assert!(!ran.out.contains("\nRule 6"), "{}", ran.out);
         assert!(ran.out.contains("what was found is the tool's own look"));
         let shown = run(&["report", &file, "--json"]).json();
         assert_eq!(shown["found"], json!([words]));

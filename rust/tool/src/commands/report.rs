@@ -32,7 +32,7 @@ struct Answer {
     is_broken: bool,
     /// Whether every rule before it is kept.
     is_certain: bool,
-    /// Nothing, where it is not certain and nothing can be pointed at.
+    /// Of a rule that is broken; nothing, where that is not certain and nothing can be pointed at.
     found: Vec<String>,
 }
 
@@ -190,7 +190,7 @@ impl<'a> Report<'a> {
         output.lines(refused::found_lines(&self.found()));
         let rows: Vec<_> = self.answers.iter().map(rule_row).collect();
         output.lines(table::lines(&RULES, &rows));
-        for answer in self.answers.iter().filter(|answer| answer.is_broken) {
+        for answer in self.answers.iter().filter(|one| !one.found.is_empty()) {
             answer.show(output);
         }
         self.show_leads(output);
