@@ -6,7 +6,7 @@ use std::io::{self, Read};
 use std::mem;
 use std::path::Path;
 
-use crate::output::Output;
+use crate::output::{parted, Output};
 
 /// The name that stands for standard input.
 const STANDARD_INPUT: &str = "-";
@@ -32,8 +32,8 @@ impl fmt::Display for Size {
     fn fmt(&self, f: &mut fmt::Formatter<'_>) -> fmt::Result {
         match self {
             Size::Exactly(1) => write!(f, "1 byte"),
-            Size::Exactly(bytes) => write!(f, "{bytes} bytes"),
-            Size::Over(bytes) => write!(f, "over {bytes} bytes"),
+            Size::Exactly(bytes) => write!(f, "{} bytes", parted(&bytes.to_string())),
+            Size::Over(bytes) => write!(f, "over {} bytes", parted(&bytes.to_string())),
         }
     }
 }
@@ -123,5 +123,6 @@ mod tests {
         assert_eq!(Size::Exactly(0).to_string(), "0 bytes");
         assert_eq!(Size::Exactly(1).to_string(), "1 byte");
         assert_eq!(Size::Over(9).to_string(), "over 9 bytes");
+        assert_eq!(Size::Exactly(1_048_576).to_string(), "1,048,576 bytes");
     }
 }

@@ -133,6 +133,23 @@ pub fn hex(bytes: &[u8]) -> String {
     pairs.join(" ")
 }
 
+/// Text with the thousands of its long numbers parted, as the rules have them: those of five digits and more.
+pub fn parted(text: &str) -> String {
+    let is_mark = |letter: char| !letter.is_ascii_alphanumeric();
+    let mut parted = String::new();
+    for piece in text.split_inclusive(is_mark) {
+        let word = piece.trim_end_matches(is_mark);
+        let is_long = word.len() >= 5 && word.bytes().all(|byte| byte.is_ascii_digit());
+        for (at, letter) in piece.char_indices() {
+            if is_long && at > 0 && at < word.len() && (word.len() - at) % 3 == 0 {
+                parted.push(',');
+            }
+            parted.push(letter);
+        }
+    }
+    parted
+}
+
 /// Why something failed, without the number that the system has for it.
 pub fn reason(error: &io::Error) -> String {
     let words = error.to_string();
@@ -149,7 +166,23 @@ mod tests {
     use std::os::unix::ffi::OsStrExt;
     use std::path::Path;
 
-    use super::{reason, shown};
+    use super::{parted, reason, shown};
+
+    #[test]
+    fn long_numbers_are_parted() {
+        for (text, told) in [
+            (
+                "1048577 bytes, over 1048576",
+                "1,048,577 bytes, over 1,048,576",
+            ),
+            ("sample 40000 is -32820.", "sample 40,000 is -32,820."),
+            ("9999 of 123456 (100000)", "9999 of 123,456 (100,000)"),
+            ("0x123456, 1,048,576, a12345", "0x123456, 1,048,576, a12345"),
+            ("", ""),
+        ] {
+            assert_eq!(parted(text), told);
+        }
+    }
 
     #[test]
     fn a_name_is_one_line() {

@@ -151,7 +151,7 @@ last byte, and ends inside the code of sample 13.",
 Samples are rebuilt from the differences that are stored, and a reference beat that
 was subtracted is added back. Each lies in -32,768 to 32,767, before and after that.",
         example: "\
-sample 6 of the second lead of samples/refused-13.scp is 32820
+sample 6 of the second lead of samples/refused-13.scp is 32,820
 with the beat added.",
         given: STREAMS,
     },
@@ -171,8 +171,8 @@ too many, and 12 bits are left.",
 A record is to be written, and no stream of codes is read to the samples of some
 lead: its tables have no code for some difference, or that does not fit 16 bits.",
         example: "\
-by differences of order 2, the samples -32768, 32767 and -32768
-have -131070 as their third value.",
+by differences of order 2, the samples -32,768, 32,767 and -32,768
+have -131,070 as their third value.",
         given: "write",
     },
     Rule {

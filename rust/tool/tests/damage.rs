@@ -124,8 +124,8 @@ fn a_huge_file_is_not_read_whole() {
     let ran = run_in(&folder, &["check", "huge.scp", "empty.scp"]);
     assert_eq!((ran.status, ran.err.as_str()), (1, ""));
     for line in [
-        "huge.scp: refused, number 1 (4294967296 bytes); rule broken: ",
-        "found: the length is 4294967296 bytes, over 1048576\n",
+        "huge.scp: refused, number 1 (4,294,967,296 bytes); rule broken: ",
+        "found: the length is 4,294,967,296 bytes, over 1,048,576\n",
         "empty.scp: refused, number 1 (0 bytes); rule broken: ",
         "found: the length is 0 bytes, under 142\n",
     ] {
@@ -134,7 +134,7 @@ fn a_huge_file_is_not_read_whole() {
     let mut input = File::open(&path).unwrap();
     let ran = run_with_input(&["check", "-"], input.try_clone().unwrap());
     assert!(
-        ran.first_line().contains("number 1 (over 1048576 bytes)"),
+        ran.first_line().contains("number 1 (over 1,048,576 bytes)"),
         "{}",
         ran.out
     );

@@ -78,7 +78,7 @@ fn explanations_are_true_of_the_samples() {
         (9, &["1000", "2000"]),
         (10, &["Section 6"]),
         (12, &["sample 13"]),
-        (13, &["sample 6", "32820"]),
+        (13, &["sample 6", "32,820"]),
         (14, &["12 bits are left"]),
     ] {
         let told = run(&["--explain", &number.to_string()]).out;

@@ -325,7 +325,7 @@ fn a_refusal_of_leads_is_explained() {
         ("refused-9.scp", "the interval is 1000 in Section 5 and 2000 in Section 6"),
         ("refused-10.scp", "found        Section 6 is absent\n"),
         ("refused-12.scp", "Section 6, lead 2: no value for sample 13: the stream ends inside the code at bit 47 of 48"),
-        ("refused-13.scp", "sample 6 is 32820 with beat sample 4 added"),
+        ("refused-13.scp", "sample 6 is 32,820 with beat sample 4 added"),
         ("refused-14.scp", "Section 6, lead 2: 12 bits are left of 64 after the last sample"),
     ] {
         let ran = run(&["samples", name]);

@@ -113,14 +113,14 @@ fn a_long_file_is_refused_with_its_size() {
     assert_eq!(ran.status, 1);
     assert_eq!(
         ran.first_line(),
-        format!("{file}: refused, number 1 (8000000000 bytes)")
+        format!("{file}: refused, number 1 (8,000,000,000 bytes)")
     );
 
     let ran = run_with_input(&["open", "-"], File::open(&file).unwrap());
     assert_eq!(ran.status, 1);
     assert_eq!(
         ran.first_line(),
-        "standard input: refused, number 1 (over 1048576 bytes)"
+        "standard input: refused, number 1 (over 1,048,576 bytes)"
     );
 }
 

@@ -773,42 +773,62 @@ fn assert_refused(folder: &Folder, ran: &Ran, number: u8, found: &str) {
     assert_eq!(folder.names(), ["job.csv", "job.json"]);
 }
 
+/// Writes so many leads of so many samples, all 0 and without code tables.
+fn written(folder: &Folder, leads: usize, count: usize) -> Ran {
+    let text = String::from_utf8(sample("job.json")).unwrap();
+    let ids: Vec<String> = (1..=leads).map(|id| format!("{{\"id\": {id}}}")).collect();
+    let start = text.find("\"leads\"").unwrap();
+    let end = text.find("\"samples\"").unwrap();
+    let text = format!(
+        "{}\"leads\": [{}],\n  {}",
+        &text[..start],
+        ids.join(", "),
+        &text[end..]
+    );
+    let file = folder.file("job.json", text.replace("default", "none").as_bytes());
+    let names = (1..=leads).map(|id| names(id as u8));
+    let head: Vec<String> = ["sample".to_string()].into_iter().chain(names).collect();
+    let mut table = head.join(",");
+    for number in 1..=count {
+        table.push_str(&format!("\n{number}"));
+        table.push_str(&",0".repeat(leads));
+    }
+    folder.file("job.csv", table.as_bytes());
+    run(&["write", &file, &folder.path("out.scp")])
+}
+
 /// A lead that is too long for its stream, and leads that are too long for the record.
 #[test]
 fn a_job_that_is_too_long_is_refused() {
     let folder = Folder::new("too-long");
-    let job = |leads: usize, count: usize| {
-        let text = String::from_utf8(sample("job.json")).unwrap();
-        let ids: Vec<String> = (1..=leads).map(|id| format!("{{\"id\": {id}}}")).collect();
-        let start = text.find("\"leads\"").unwrap();
-        let end = text.find("\"samples\"").unwrap();
-        let text = format!(
-            "{}\"leads\": [{}],\n  {}",
-            &text[..start],
-            ids.join(", "),
-            &text[end..]
-        );
-        let file = folder.file("job.json", text.replace("default", "none").as_bytes());
-        let names = (1..=leads).map(|id| names(id as u8));
-        let head: Vec<String> = ["sample".to_string()].into_iter().chain(names).collect();
-        let mut table = head.join(",");
-        for number in 1..=count {
-            table.push_str(&format!("\n{number}"));
-            table.push_str(&",0".repeat(leads));
-        }
-        folder.file("job.csv", table.as_bytes());
-        run(&["write", &file, &folder.path("out.scp")])
-    };
-    let found = "lead 1, I: its shortest stream has over 65535 bytes";
+    let job = |leads, count| written(&folder, leads, count);
+    let found = "lead 1, I: its shortest stream has over 65,535 bytes";
     assert_refused(&folder, &job(1, 32_768), 16, found);
-    let found = "the leads' streams have 1048544 bytes, and the data of Sections 1 and 2 have";
+    let found = "the leads' streams have 1,048,544 bytes, and the data of Sections 1 and 2 have";
     assert_refused(&folder, &job(16, 32_767), 16, found);
-    let found = "lead 2, II: it has 65537 samples, not 1 to 65536";
+    let found = "lead 2, II: it has 65,537 samples, not 1 to 65,536";
     assert_refused(&folder, &job(2, 65_537), 17, found);
     let found = "there are 33 leads, not 1 to 32";
     assert_refused(&folder, &job(33, 1), 17, found);
     let found = "there are 0 leads, not 1 to 32";
     assert_refused(&folder, &job(0, 0), 17, found);
+}
+
+/// The longest stream, and numbers as the rules have them.
+#[test]
+fn long_numbers_are_parted() {
+    let folder = Folder::new("parted");
+    let (written, out) = (written(&folder, 1, 32_767), folder.path("out.scp"));
+    let bytes = fs::read(&out).unwrap().len();
+    let bytes = format!("{},{:03} bytes", bytes / 1000, bytes % 1000);
+    let line = format!("{out}: written ({bytes}; 1 lead, 32,767 samples)\n");
+    assert_eq!((written.status, written.out), (0, line));
+    let packed = run(&["pack", &out, &folder.path("packed.scp")]);
+    assert!(
+        packed.first_line().contains(&format!(" ({bytes}, now ")),
+        "{}",
+        packed.out
+    );
 }
 
 /// The name of a lead of these few IDs.

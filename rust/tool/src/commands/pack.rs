@@ -10,7 +10,7 @@ use super::write::say;
 use crate::input::{read_or_complain, Input};
 use crate::making::{Making, DEFAULT_TABLE, HEADER};
 use crate::names;
-use crate::output::{shown, shown_target, Output};
+use crate::output::{parted, shown, shown_target, Output};
 use crate::refused;
 use crate::status::Status;
 use crate::store::Target;
@@ -97,8 +97,9 @@ fn leave_alone(file: &Path, losses: &[String], target: &Target, output: &mut Out
 /// How many bytes were saved.
 fn heading(file: &Path, out: &Path, before: usize, after: usize) -> String {
     let saved = before.saturating_sub(after);
+    let saved = parted(&format!("{before} bytes, now {after}: {saved} saved"));
     format!(
-        "{}: packed into {} ({before} bytes, now {after}: {saved} saved)",
+        "{}: packed into {} ({saved})",
         shown(file),
         shown_target(out)
     )

@@ -8,7 +8,7 @@ use super::leads::how_many;
 use crate::explain;
 use crate::job;
 use crate::making::Making;
-use crate::output::{shown, shown_target, Output};
+use crate::output::{parted, shown, shown_target, Output};
 use crate::refused;
 use crate::status::Status;
 use crate::store::Target;
@@ -36,13 +36,10 @@ pub fn run(file: &Path, out: &Path, force: bool, output: &mut Output) -> Status 
         output.complain_of_target(out, &error);
         return Status::NotDone;
     }
-    let line = format!(
-        "{}: written ({} bytes; {}, {} samples)",
-        shown_target(out),
-        record.len(),
-        how_many(making.ids.len()),
-        making.samples.len()
-    );
+    let (bytes, samples) = (record.len(), making.samples.len());
+    let leads = how_many(making.ids.len());
+    let made = parted(&format!("{bytes} bytes; {leads}, {samples} samples"));
+    let line = format!("{}: written ({made})", shown_target(out));
     say(&[line], &target, output);
     Status::Accepted
 }

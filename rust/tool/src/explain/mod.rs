@@ -15,6 +15,7 @@ use scp::Refusal;
 
 use crate::input::{Input, Size};
 use crate::making;
+use crate::output;
 pub use writing::found as found_in_job;
 
 /// What is said if nothing was found, which would be a fault of this module.
@@ -80,7 +81,16 @@ pub fn found(looked: &Looked, refusal: Refusal) -> Vec<String> {
 /// What is to be seen in a record that breaks a refusal's rule, asked alone; it may be nothing.
 pub fn seen(looked: &Looked, refusal: Refusal) -> Vec<String> {
     let row = usize::from(refusal.number()) - 1;
-    ROWS.get(row).map_or_else(Vec::new, |look| look(looked))
+    let seen = ROWS.get(row).map_or_else(Vec::new, |look| look(looked));
+    parted(seen, refusal)
+}
+
+/// What was found, with the thousands of its numbers parted; not that of row 7, which shows prefixes bit by bit.
+fn parted(found: Vec<String>, refusal: Refusal) -> Vec<String> {
+    match refusal.number() {
+        7 => found,
+        _ => found.iter().map(|one| output::parted(one)).collect(),
+    }
 }
 
 /// That a file seems to be no SCP-ECG record, where it has not the letters that each has.

@@ -2,7 +2,7 @@
 
 use scp::Refusal;
 
-use super::{header, tables, NOTHING};
+use super::{header, parted, tables, NOTHING};
 use crate::making::Making;
 use crate::names;
 
@@ -19,7 +19,7 @@ pub fn found(making: &Making, refusal: Refusal) -> Vec<String> {
     if found.is_empty() {
         return vec![NOTHING.to_string()];
     }
-    found
+    parted(found, refusal)
 }
 
 /// A lead's place and name.
