@@ -15,7 +15,7 @@ class Words(Case):
         for number in range(1, 18):
             refused = tigmavresh.Refused(number)
             self.assertIn(f'{number} => "{refused.rule}"', rust)
-            self.assertEqual(str(refused), f"refused, number {number}; the rule: {refused.rule}")
+            self.assertEqual(str(refused), f"refused, number {number}; rule broken: {refused.rule}")
         self.assertEqual(len(re.findall(r'\d+ => "', rust)), 17)
 
     def test_a_refusal_can_be_sent(self):

@@ -21,7 +21,7 @@ class Refused(Exception):
         return RULES[self.number]
 
     def __str__(self) -> str:
-        return f"refused, number {self.number}; the rule: {self.rule}"
+        return f"refused, number {self.number}; rule broken: {self.rule}"
 
 
 def check(number: int) -> None:
