@@ -85,7 +85,8 @@ pub fn seen(looked: &Looked, refusal: Refusal) -> Vec<String> {
     parted(seen, refusal)
 }
 
-/// What was found, with the thousands of its numbers parted; not that of row 7, which shows prefixes bit by bit.
+/// What was found, with the thousands of its numbers parted; not that of row 7, which shows prefixes bit by bit. No other row
+/// shows what a field holds: an identifier is never written in another way.
 fn parted(found: Vec<String>, refusal: Refusal) -> Vec<String> {
     match refusal.number() {
         7 => found,
