@@ -92,11 +92,16 @@ pub enum Command {
     /// with its header, the index of its first byte (from 1), and whether it is
     /// present. Of a record that is refused: the number, what its rule asks, and what
     /// was found.
+    ///
+    /// As JSON there is an object in each line, and the last one is the summary.
     #[command(verbatim_doc_comment, after_help = STATUS)]
     Open {
         /// The records to open
         #[arg(value_name = "FILE", required = true)]
         files: Vec<PathBuf>,
+        /// As JSON, an object in each line
+        #[arg(long)]
+        json: bool,
     },
     /// Show the header fields of a record, byte for byte
     ///
@@ -104,11 +109,17 @@ pub enum Command {
     /// length, its bytes in hex and, if they are printable ASCII, as text, a NUL being
     /// \0. The patient identifier is shown by its bytes like every other field:
     /// 30 30 37 00 and 37 00 are two identifiers.
+    ///
+    /// As JSON there is one object. Its refusal is null if the exit status is 0. A
+    /// field's bytes are in hex as above; its text has every byte, a NUL being \u0000.
     #[command(verbatim_doc_comment, after_help = ONE)]
     Fields {
         /// The record to show
         #[arg(value_name = "FILE")]
         file: PathBuf,
+        /// As JSON
+        #[arg(long)]
+        json: bool,
     },
     /// Show what a record says of each of its leads
     ///

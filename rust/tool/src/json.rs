@@ -227,6 +227,105 @@ impl Checked {
     }
 }
 
+/// A record that was opened: its pointers, or its refusal.
+#[derive(Serialize)]
+pub struct Opened {
+    #[serde(flatten)]
+    file: Sized,
+    refusal: Option<Refused>,
+    #[serde(skip_serializing_if = "Option::is_none")]
+    pointers: Option<Vec<Pointer>>,
+}
+
+/// A pointer, as it is stored.
+#[derive(Serialize)]
+struct Pointer {
+    id: u16,
+    name: &'static str,
+    length: u32,
+    index: u32,
+    present: bool,
+}
+
+impl Opened {
+    /// A record with what opening it answered.
+    pub fn new(file: &Path, input: &Input, opened: Result<&[scp::Pointer], Refusal>) -> Opened {
+        let (pointers, refusal) = told(input, opened, Pointer::new);
+        Opened {
+            file: Sized::new(file, input.size),
+            refusal,
+            pointers,
+        }
+    }
+}
+
+impl Pointer {
+    fn new(pointer: &scp::Pointer) -> Pointer {
+        Pointer {
+            id: pointer.id,
+            name: names::section(pointer.id),
+            length: pointer.length,
+            index: pointer.index,
+            present: pointer.is_present(),
+        }
+    }
+}
+
+/// A record's header fields in their order, or its refusal.
+#[derive(Serialize)]
+pub struct Header {
+    #[serde(flatten)]
+    file: Sized,
+    refusal: Option<Refused>,
+    #[serde(skip_serializing_if = "Option::is_none")]
+    fields: Option<Vec<Field>>,
+    #[serde(skip_serializing_if = "Option::is_none")]
+    note: Option<&'static str>,
+}
+
+/// A header field.
+#[derive(Serialize)]
+pub struct Field {
+    pub tag: u8,
+    pub name: &'static str,
+    pub length: usize,
+    /// In hex.
+    pub bytes: String,
+    /// Every byte of it, if they are text.
+    #[serde(skip_serializing_if = "Option::is_none")]
+    pub text: Option<String>,
+}
+
+impl Header {
+    /// A record with its fields, each told by a function, or its refusal.
+    pub fn new(
+        file: &Path,
+        input: &Input,
+        fields: Result<&[scp::Field], Refusal>,
+        field: impl Fn(&scp::Field) -> Field,
+    ) -> Header {
+        let (fields, refusal) = told(input, fields, field);
+        Header {
+            file: Sized::new(file, input.size),
+            note: refusal.is_some().then_some(refused::NOTE),
+            refusal,
+            fields,
+        }
+    }
+}
+
+/// Each thing that a record has, told by a function, or the record's refusal.
+fn told<T, U>(
+    input: &Input,
+    answer: Result<&[T], Refusal>,
+    tell: impl Fn(&T) -> U,
+) -> (Option<Vec<U>>, Option<Refused>) {
+    match answer {
+        Ok(all) => (Some(all.iter().map(tell).collect()), None),
+        Err(refusal) => (None, Some(Refused::new(input, 1, refusal))),
+    }
+}
+
 /// All that was asked of a record: the verdict, each rule, each lead.
 #[derive(Serialize)]
 pub struct Report {

@@ -61,8 +61,8 @@ fn end(told: &clap::Error, mut output: Output) -> Status {
 /// Does what a command asks for.
 fn run(command: Command, output: &mut Output) -> Status {
     match command {
-        Command::Open { files } => commands::open::run(&files, output),
-        Command::Fields { file } => commands::fields::run(&file, output),
+        Command::Open { files, json } => commands::open::run(&files, json, output),
+        Command::Fields { file, json } => commands::fields::run(&file, json, output),
         Command::Leads { file, json } => commands::leads::run(&file, json, output),
         Command::Samples {
             file,

@@ -195,6 +195,8 @@ fn long_lead() -> Vec<u8> {
 fn an_answer_that_cannot_be_written_is_told() {
     for words in [
         &["open", "007.scp"][..],
+        &["open", "007.scp", "--json"],
+        &["fields", "007.scp", "--json"],
         &["leads", "beat.scp"],
         &["samples", "beat.scp"],
         &["samples", "beat.scp", "--csv"],
@@ -227,6 +229,7 @@ fn a_bad_command_line_is_told() {
         &["fields", "007.scp", "7.scp"],
         &["close", "007.scp"],
         &["open", "--all", "007.scp"],
+        &["fields", "--csv", "007.scp"],
         &["leads"],
         &["leads", "007.scp", "7.scp"],
         &["leads", "--csv", "beat.scp"],
@@ -286,7 +289,7 @@ fn help_says_all_of_it() {
     for word in commands.split(' ').chain(words) {
         assert!(ran.out.contains(word), "{word}\n{}", ran.out);
     }
-    let words = "FILE FILE FILE --lead --jobs --json --force --force man SHELL";
+    let words = "--json --json --json --lead --jobs --json --force --force man SHELL";
     for (command, word) in commands.split(' ').zip(words.split(' ')) {
         let ran = run(&[command, "--help"]);
         assert_eq!(ran.status, 0);

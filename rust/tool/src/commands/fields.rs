@@ -2,9 +2,10 @@
 
 use std::path::Path;
 
-use scp::Field;
+use scp::{Field, Refusal};
 
-use crate::input::read_or_complain;
+use crate::input::{read_or_complain, Input};
+use crate::json;
 use crate::names;
 use crate::output::{hex, shown, Output};
 use crate::refused;
@@ -22,22 +23,44 @@ const COLUMNS: [Column; 5] = [
 /// How many bytes stand in a line.
 const BYTES_A_LINE: usize = 16;
 
-/// Shows the fields of a file.
-pub fn run(file: &Path, output: &mut Output) -> Status {
+/// Shows the fields of a file, as a table or as JSON.
+pub fn run(file: &Path, json: bool, output: &mut Output) -> Status {
     let Some(input) = read_or_complain(file, output) else {
         return Status::NotDone;
     };
     output.block();
-    match scp::fields(&input.bytes) {
-        Ok(fields) => {
-            show(file, &input.bytes, &fields.collect::<Vec<_>>(), output);
-            Status::Accepted
-        }
-        Err(refusal) => {
+    let fields = scp::fields(&input.bytes).map(|fields| fields.collect::<Vec<_>>());
+    let status = match fields {
+        Ok(_) => Status::Accepted,
+        Err(_) => Status::Refused,
+    };
+    match (json, fields) {
+        (true, fields) => output.line(json::text(&as_json(file, &input, fields))),
+        (false, Ok(fields)) => show(file, &input.bytes, &fields, output),
+        (false, Err(refusal)) => {
             refused::show(file, &input, refusal, output);
             refused::footnote(output);
-            Status::Refused
         }
+    }
+    status
+}
+
+/// The fields, or the refusal, as JSON.
+fn as_json(file: &Path, input: &Input, fields: Result<Vec<Field>, Refusal>) -> json::Header {
+    let fields = fields.as_deref().map_err(|refusal| *refusal);
+    json::Header::new(file, input, fields, |field| {
+        field_as_json(field.tag, &input.bytes[field.range.clone()])
+    })
+}
+
+/// A field as JSON.
+fn field_as_json(tag: u8, bytes: &[u8]) -> json::Field {
+    json::Field {
+        tag,
+        name: names::field(tag),
+        length: bytes.len(),
+        bytes: hex(bytes),
+        text: is_text(bytes).then(|| bytes.iter().copied().map(char::from).collect()),
     }
 }
 

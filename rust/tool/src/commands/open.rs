@@ -5,8 +5,9 @@ use std::path::{Path, PathBuf};
 use scp::Pointer;
 
 use crate::input::{Input, Reader, Size};
+use crate::json;
 use crate::names;
-use crate::output::{shown, Output};
+use crate::output::{reason, shown, Output};
 use crate::refused;
 use crate::status::Status;
 use crate::table::{self, numbers, words, Column};
@@ -20,41 +21,55 @@ const COLUMNS: [Column; 5] = [
     words(""),
 ];
 
-/// Opens each file and shows its pointers; the worst of all files is the status.
-pub fn run(files: &[PathBuf], output: &mut Output) -> Status {
+/// Opens each file and shows its pointers, as a table or as a line of JSON; the worst of all files is the status.
+pub fn run(files: &[PathBuf], json: bool, output: &mut Output) -> Status {
     let mut reader = Reader::default();
     let mut tally = Tally::default();
     for file in files {
         match reader.read(file) {
-            Ok(input) => open(file, &input, &mut tally, output),
+            Ok(input) => open(file, &input, json, &mut tally, output),
             Err(error) => {
+                if json {
+                    output.line(json::line(&json::Unread::new(file, reason(&error))));
+                }
                 output.complain(file, &error);
                 tally.not_read += 1;
             }
         }
     }
-    if tally.refused() > 0 {
-        refused::footnote(output);
-    }
-    if files.len() > 1 {
-        output.block();
-        output.line(&tally);
-    }
+    conclude(&tally, json, output);
     tally.status()
 }
 
 /// Opens one file.
-fn open(file: &Path, input: &Input, tally: &mut Tally, output: &mut Output) {
+fn open(file: &Path, input: &Input, json: bool, tally: &mut Tally, output: &mut Output) {
+    let opened = scp::open(&input.bytes);
+    match opened {
+        Ok(_) => tally.accepted += 1,
+        Err(refusal) => tally.refuse(refusal),
+    }
+    if json {
+        let opened = opened.as_deref().map_err(|refusal| *refusal);
+        return output.line(json::line(&json::Opened::new(file, input, opened)));
+    }
     output.block();
-    match scp::open(&input.bytes) {
-        Ok(pointers) => {
-            show(file, input.size, &pointers, output);
-            tally.accepted += 1;
-        }
-        Err(refusal) => {
-            refused::show(file, input, refusal, output);
-            tally.refuse(refusal);
-        }
+    match opened {
+        Ok(pointers) => show(file, input.size, &pointers, output),
+        Err(refusal) => refused::show(file, input, refusal, output),
+    }
+}
+
+/// Shows how many files were accepted, refused and not read: as text if there are several.
+fn conclude(tally: &Tally, json: bool, output: &mut Output) {
+    if json {
+        return output.line(json::line(&json::Summary::new(tally)));
+    }
+    if tally.refused() > 0 {
+        refused::footnote(output);
+    }
+    if tally.files() > 1 {
+        output.block();
+        output.line(tally);
     }
 }
 
