@@ -110,8 +110,14 @@ pub enum Command {
     /// \0. The patient identifier is shown by its bytes like every other field:
     /// 30 30 37 00 and 37 00 are two identifiers.
     ///
+    /// The dates of birth and of recording and the time of recording stand there as
+    /// 2024-03-14 and 09:26:53, without quotes, if month, day, hour, minute and second
+    /// are in their bounds. That is the tool's own reading of the bytes, of which the
+    /// proved library says nothing; whether there is such a day is not asked.
+    ///
     /// As JSON there is one object. Its refusal is null if the exit status is 0. A
-    /// field's bytes are in hex as above; its text has every byte, a NUL being \u0000.
+    /// field's bytes are in hex as above; beside them is its text, date or time, if
+    /// there is one. A text has every byte, a NUL being \u0000.
     #[command(verbatim_doc_comment, after_help = ONE)]
     Fields {
         /// The record to show

@@ -10,6 +10,7 @@ use serde_json::value::{to_raw_value, RawValue};
 use crate::input::{Input, Size};
 use crate::names;
 use crate::output::hex;
+use crate::reading::Reading;
 use crate::refused;
 use crate::tally::Tally;
 use crate::verdict::Verdict;
@@ -291,9 +292,9 @@ pub struct Field {
     pub length: usize,
     /// In hex.
     pub bytes: String,
-    /// Every byte of it, if they are text.
-    #[serde(skip_serializing_if = "Option::is_none")]
-    pub text: Option<String>,
+    /// By a name of its own.
+    #[serde(flatten)]
+    pub reading: Option<Reading>,
 }
 
 impl Header {

@@ -14,6 +14,7 @@ mod json;
 mod making;
 mod names;
 mod output;
+mod reading;
 mod refused;
 mod rules;
 mod status;

@@ -146,6 +146,14 @@ fn fields_are_told_byte_for_byte() {
         fields[1],
         json!({"tag": 14, "name": "recording device", "length": 0, "bytes": ""})
     );
+    assert_eq!(
+        fields[2],
+        json!({"tag": 25, "name": "date of recording", "length": 4, "bytes": "E8 07 03 0E", "date": "2024-03-14"})
+    );
+    assert_eq!(
+        fields[3],
+        json!({"tag": 26, "name": "time of recording", "length": 3, "bytes": "09 1A 35", "time": "09:26:53"})
+    );
     assert_eq!(fields[4]["text"], "Made up\0");
     let seven = run(&["fields", "7.scp", "--json"]).json();
     assert_eq!(seven["fields"][0]["bytes"], "37 00");
@@ -230,4 +238,54 @@ fn no_byte_of_a_field_is_lost() {
     assert_eq!(told(6), (Some("22 5C 00 00"), Some("\"\\\0\0")));
     assert_eq!(fields[6]["name"], "other");
     assert_eq!(fields.as_array().unwrap().len(), 7);
+}
+
+/// A record with this date of birth, date and time.
+fn dated(birth: &[u8], date: &[u8], time: &[u8]) -> Vec<u8> {
+    with_fields(&[(2, b"007\0"), (5, birth), (14, b""), (25, date), (26, time)])
+}
+
+/// Dates and times are read where they are in their bounds, and their bytes are shown either way.
+#[test]
+fn dates_and_times_are_read() {
+    let folder = Folder::new("dates");
+    let record = dated(&[0xA8, 7, 11, 2], &[0xE8, 7, 12, 31], &[0, 32, 33]);
+    let file = folder.file("dated.scp", &record);
+    let ran = run(&["fields", &file]);
+    assert_eq!(ran.status, 0);
+    let table = "
+  Tag  Length  Name                Bytes        Text
+    2       4  patient identifier  30 30 37 00  \"007\\0\"
+    5       4  date of birth       A8 07 0B 02  1960-11-02
+   14       0  recording device
+   25       4  date of recording   E8 07 0C 1F  2024-12-31
+   26       3  time of recording   00 20 21     00:32:33
+";
+    assert!(ran.out.ends_with(table), "{}", ran.out);
+    let fields = run(&["fields", &file, "--json"]).json()["fields"].clone();
+    assert_eq!(fields[1]["date"], "1960-11-02");
+    assert_eq!(fields[3]["date"], "2024-12-31");
+    assert_eq!(fields[4]["time"], "00:32:33");
+    assert!(fields[4].get("text").is_none() && fields[4].get("date").is_none());
+
+    let record = dated(&[0xA8, 7, 11, 2, 0], &[0xE8, 7, 13, 31], &[24, 0, 0]);
+    let file = folder.file("out-of-bounds.scp", &record);
+    let ran = run(&["fields", &file]);
+    assert_eq!(ran.status, 0);
+    for end in ["A8 07 0B 02 00", "E8 07 0D 1F", "18 00 00"] {
+        assert!(ran.out.lines().any(|line| line.ends_with(end)), "{end}");
+    }
+    let fields = run(&["fields", &file, "--json"]).json()["fields"].clone();
+    for field in fields.as_array().unwrap() {
+        assert!(field.get("date").is_none() && field.get("time").is_none());
+    }
+}
+
+#[test]
+fn the_help_says_whose_reading_a_date_is() {
+    let help = run(&["fields", "--help"]).out;
+    assert!(
+        help.contains("the tool's own reading of the bytes"),
+        "{help}"
+    );
 }

@@ -8,6 +8,7 @@ use crate::input::{read_or_complain, Input};
 use crate::json;
 use crate::names;
 use crate::output::{hex, shown, Output};
+use crate::reading::Reading;
 use crate::refused;
 use crate::status::Status;
 use crate::table::{self, numbers, words, Column};
@@ -60,7 +61,7 @@ fn field_as_json(tag: u8, bytes: &[u8]) -> json::Field {
         name: names::field(tag),
         length: bytes.len(),
         bytes: hex(bytes),
-        text: is_text(bytes).then(|| bytes.iter().copied().map(char::from).collect()),
+        reading: Reading::of(tag, bytes),
     }
 }
 
@@ -80,8 +81,13 @@ fn show(file: &Path, record: &[u8], fields: &[Field], output: &mut Output) {
 
 /// A field's rows of the table: one, or more if its bytes are many.
 fn rows(tag: u8, bytes: &[u8]) -> Vec<[String; 5]> {
-    let is_text = is_text(bytes);
-    let text = |part: &[u8]| if is_text { quoted(part) } else { String::new() };
+    let reading = Reading::of(tag, bytes);
+    let read = |part: &[u8]| match &reading {
+        Some(Reading::Text(_)) => quoted(part),
+        // these have few bytes, in one line
+        Some(Reading::Date(read) | Reading::Time(read)) => read.clone(),
+        None => String::new(),
+    };
     let mut parts = bytes.chunks(BYTES_A_LINE);
     let first = parts.next().unwrap_or_default();
     let mut rows = vec![[
@@ -89,17 +95,11 @@ fn rows(tag: u8, bytes: &[u8]) -> Vec<[String; 5]> {
         bytes.len().to_string(),
         names::field(tag).to_string(),
         hex(first),
-        text(first),
+        read(first),
     ]];
     let empty = String::new;
-    rows.extend(parts.map(|part| [empty(), empty(), empty(), hex(part), text(part)]));
+    rows.extend(parts.map(|part| [empty(), empty(), empty(), hex(part), read(part)]));
     rows
-}
-
-/// Whether bytes are text: printable ASCII, with NUL where a string ends.
-fn is_text(bytes: &[u8]) -> bool {
-    let printable = |byte: &u8| matches!(byte, b' '..=b'~');
-    bytes.iter().any(printable) && bytes.iter().all(|byte| *byte == 0 || printable(byte))
 }
 
 /// Text in quotes, every byte of it to be seen.
@@ -118,7 +118,7 @@ fn quoted(text: &[u8]) -> String {
 
 #[cfg(test)]
 mod tests {
-    use super::{is_text, quoted, rows};
+    use super::{quoted, rows};
 
     #[test]
     fn identifiers_are_shown_by_their_bytes() {
@@ -128,12 +128,19 @@ mod tests {
     }
 
     #[test]
-    fn text_is_printable_throughout() {
-        assert!(is_text(b"a\0b\0"));
-        assert!(!is_text(b"\0"));
-        assert!(!is_text(b""));
-        assert!(!is_text(b"caf\xC3\xA9\0"));
+    fn every_byte_of_a_text_is_seen() {
         assert_eq!(quoted(b"\"\\ \0"), r#""\"\\ \0""#);
+    }
+
+    #[test]
+    fn dates_and_times_have_no_quotes() {
+        let shown = |tag, bytes| rows(tag, bytes)[0][4].clone();
+        assert_eq!(shown(25, &[0xE8, 7, 3, 14]), "2024-03-14");
+        assert_eq!(shown(5, &[0xA8, 7, 11, 2]), "1960-11-02");
+        assert_eq!(shown(26, &[9, 26, 53]), "09:26:53");
+        assert_eq!(shown(26, &[0, 32, 33]), "00:32:33");
+        assert_eq!(shown(25, &[0xE8, 7, 13, 14]), "");
+        assert_eq!(shown(26, &[24, 26, 53]), "");
     }
 
     #[test]
