@@ -110,10 +110,11 @@ pub enum Command {
     /// \0. The patient identifier is shown by its bytes like every other field:
     /// 30 30 37 00 and 37 00 are two identifiers.
     ///
-    /// The dates of birth and of recording and the time of recording stand there as
-    /// 2024-03-14 and 09:26:53, without quotes, if month, day, hour, minute and second
-    /// are in their bounds. That is the tool's own reading of the bytes, of which the
-    /// proved library says nothing; whether there is such a day is not asked.
+    /// Beside the bytes of the dates of birth and of recording and of the time of
+    /// recording stands, without quotes, 2024-03-14 or 09:26:53: if they are 4 bytes
+    /// or 3, and month, day, hour, minute and second are in their bounds. That is the
+    /// tool's own reading of the bytes, of which the proved library says nothing;
+    /// whether there is such a day is not asked.
     ///
     /// As JSON there is one object. Its refusal is null if the exit status is 0. A
     /// field's bytes are in hex as above; beside them is its text, date or time, if

@@ -283,7 +283,7 @@ fn dates_and_times_are_read() {
 
 #[test]
 fn the_help_says_whose_reading_a_date_is() {
-    let help = run(&["fields", "--help"]).out;
+    let help = run(&["fields", "--help"]).out.replace('\n', " ");
     assert!(
         help.contains("the tool's own reading of the bytes"),
         "{help}"
