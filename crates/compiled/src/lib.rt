@@ -4,7 +4,7 @@
 ghost use mathlib.Core.Path.{_≡_};
 ghost use mathlib.Core.Bool.{true};
 ghost use mathlib.Core.List.{[], _++_};
-ghost use Prim.Native.Nat.{ℕ, _+_, _*_, _<_, _≤_};
+ghost use Prim.Native.Nat.{ℕ, _+_, _*_, _/_, _^_, _<_, _≤_};
 ghost use lib.ListN.{length, getD, take, drop};
 ghost use Rattle.wire.specs.Rules.{every};
 ghost use Rattle.tables.specs.Structures.{structureRight, structuresAt};
@@ -235,15 +235,17 @@ pub fn compile(s: &[u8], at: usize, spare: usize, tab: &mut [u32])
 // What stands for the first eight bits of a window.
 fn pointed(row: &[u32], w: u64) -> usize
     requires { ⌜ length (now row) ≡ 256 ⌝ }
+    ensures { λ r. ⌜ r ≡ getD (now (row .entry)) (w / 2 ^ 56) 0 ⌝ }
 {
     let first = bits::top(w, 8) as usize;
     row[first] as usize
 }
 
-// The structure of table t to try first for the bits of a window: its place, and 64 times its prefix's length. Nothing is said of it:
-// whoever takes it tests it.
+// The structure of table t to try first for the bits of a window: its place, and 64 times its prefix's length. What stands there is
+// what is answered; that it is right is nowhere said, and whoever takes it tests it.
 pub fn guess(tab: &[u32], t: usize, w: u64) -> usize
     requires { ⌜ (length (now tab) ≡ 5128) × (t < 8) ⌝ }
+    ensures { λ r. ⌜ r ≡ getD (now (tab .entry)) (3080 + t * 256 + w / 2 ^ 56) 0 ⌝ }
 {
     let from = 3080 + t * 256;
     pointed(&tab[from..from + 256], w)

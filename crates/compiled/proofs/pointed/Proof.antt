@@ -1,4 +1,7 @@
--- Eight bits are a number below 256; nothing is said of what stands there.
+-- Eight bits are a number below 256.
+use mathlib.Core.Path.{ap}
+use Prim.Native.Nat.{ℕ}
+use lib.ListN.{getD}
 use native.Mathlib.Omega.{arith}
 use borrow.Author.Needs.{needs}
 use Rattle.compiled.proofs.pointed.Statement.{statement}
@@ -17,7 +20,7 @@ cast-result : tie.Need-cast-result
 cast-result c = omega (arith, c .shared-slice-known2 .given (c .before .top .result))
 
 returns : tie.Need-returns
-returns c = search needs
+returns c = ap (λ (i : ℕ). getD (c .before .before .before .args .row .now) i 0) (c .before .top .ensures)
 
 pub pointed-spec : {M : Type 1} → statement M
 pointed-spec =
