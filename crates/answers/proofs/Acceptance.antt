@@ -10,7 +10,7 @@ use lib.IntN.{ℤ}
 use lib.ListN.{length, take, drop}
 use lib.Seq.{take-at}
 use Rattle.wire.specs.Numbers.{part}
-use Rattle.wire.specs.Rules.{every}
+use Rattle.wire.specs.RuleWords.{every}
 use Rattle.header.specs.declared.Field.{Field}
 use Rattle.header.specs.declared.Step.the-variants.{Found}
 use Rattle.header.proofs.Laws.{step-found, fields-step}
@@ -24,20 +24,20 @@ use Rattle.bits.specs.Bits.{bitsIn}
 use Rattle.samples.specs.Differences.{differences}
 use Rattle.samples.specs.Trace.{rebuilt, fits16}
 use Rattle.traces.specs.Rebuilding.{rebuild}
-use Rattle.leads.specs.Answers.{entryOf}
+use Rattle.leads.specs.LeadAnswers.{entryOf}
 use Rattle.leads.proofs.Laws.{trace-length}
 use Rattle.packing.specs.Packing.{bytesFor, packed}
 use Rattle.packing.proofs.Laws.{length-packed}
 use Rattle.encode.specs.declared.Coded.{Coded}
 use Rattle.encode.specs.Encoding as E
-use Rattle.encode.specs.Encoding.{tablesGiven, tablesGivenRight, foundRefusal, codedAs, outAs, Encoded}
+use Rattle.encode.specs.Encoding.{tablesGiven, tablesGivenRight, foundRefusal, codedAs, outAs, LeadEncoding}
 use Rattle.trip.proofs.Traces.{stream-back}
 use Rattle.trip.proofs.Compose.{given-right}
 use Rattle.trip.proofs.Written.{written-back}
 use Rattle.answers.specs.Demands.{AllKept, rowsOpened, rowsLead, Demand2}
 use Rattle.answers.proofs.Laws.{none-broken}
 use Rattle.answers.proofs.Refusals.{lead, opened, streamed}
-use Rattle.answers.proofs.Fewest.{given-kept, rebuilds-with}
+use Rattle.answers.proofs.Fewest.{given-kept, undone}
 use Rattle.answers.proofs.Identifiers.{same-equal, equal-same}
 
 opened-whole : (r lent : List ℕ) → AllKept (rowsOpened r)
@@ -74,7 +74,7 @@ step-shown s at f e = let w = step-found s at f e in (fields-step s at ∙ ap (o
 
 -- by what was found, and the number that it gives
 coded-back : (s2 : List ℕ) (xs : List ℤ) (order : ℕ) (out : List ℕ) → tablesGivenRight s2 ≡ true → every fits16 xs ≡ true
-    → (found : Option (List ℕ)) → E.Found (tablesGiven s2) (differences order xs) found → (n : ℕ) → foundRefusal (length out) found ≡ n
+    → (found : Option (List ℕ)) → E.SearchFinds (tablesGiven s2) (differences order xs) found → (n : ℕ) → foundRefusal (length out) found ≡ n
     → codedAs n found .refusal ≡ 0
     → rebuild (tablesGiven s2) order (length xs) (bitsIn (take (codedAs n found .bytes) (outAs n found out))) ≡ rebuilt xs
 unfolding foundRefusal
@@ -87,7 +87,7 @@ coded-back s2 xs order out right fit (some bs) F zero e h =
     (stream-back (length tables) tables (given-right s2 right) order xs bs fit (F .stream))
 
 encoded-back : {s2 : List ℕ} {xs : List ℤ} {order : ℕ} {work out : List ℕ} {a : Coded} {w o : List ℕ} → every fits16 xs ≡ true
-    → Encoded s2 xs order work out a w o → a .refusal ≡ 0
+    → LeadEncoding s2 xs order work out a w o → a .refusal ≡ 0
     → rebuild (tablesGiven s2) order (length xs) (bitsIn (take (a .bytes) o)) ≡ rebuilt xs
 encoded-back fit (E.refused n e) h = absurd (omega arith)
 encoded-back {s2 = s2} {xs = xs} {order = order} {work = work} {out = out} fit (E.answered found e F) h =
@@ -102,13 +102,11 @@ demand2 = record {
   walked = walked;
   step-found = step-shown;
   step-end = λ s at e. fields-step s at ∙ ap (onward (fieldsFrom s)) e;
-  same-equal = same-equal;
-  equal-same = equal-same;
-  entered = λ r place kept. ap (entryOf r (place - 1)) (lead r place ∙ none-broken (rowsLead r place) 1 kept);
+  identifiers = λ a b. (same-equal a b, λ e. rw (← e) (equal-same a));
+  entered = λ r place kept. ap (entryOf r (place - 1)) (lead r place ∙ none-broken (rowsLead r place) 0 kept);
   read = λ r place room work xs out kept e.
       rw (streamed r place room work kept, e) (refl, refl, trace-length r (place - 1) xs (sym e));
-  undone = λ s2 order xs bs rest right fit s few.
-      rebuilds-with (length (tablesGiven s2)) (tablesGiven s2) (given-right s2 right) order xs bs rest fit s few;
+  undone = λ s2 order xs bs right fit. undone (length (tablesGiven s2)) (tablesGiven s2) (given-right s2 right) order xs bs fit;
   coded-back = λ s2 xs order work out a w o fit e. encoded-back fit e;
   given-back = λ j work out a w o fits f. written-back j work out fits f;
 }

@@ -8,7 +8,7 @@ use native.Mathlib.Omega.{arith}
 use lib.IntN.{pos}
 use lib.ListN.{length, take}
 use Rattle.wire.specs.Numbers.{numberAt}
-use Rattle.wire.specs.Rules.{each, allIn, every, endsBy}
+use Rattle.wire.specs.RuleWords.{each, allIn, every, endsBy}
 use Rattle.header.specs.Fields.{isField, fieldAt, stepAt}
 use Rattle.bits.specs.Bits.{highFirst, lowFirst, bitsIn, numberAfter, signed, begins}
 use Rattle.tables.specs.Structures.{structureAt, structuresAt, modeRight, structureRight, apart, prefixFree}
@@ -16,13 +16,13 @@ use Rattle.tables.specs.Default.{codeOf, valued, ones, twoValues, defaultTable}
 use Rattle.tables.specs.Section2.{isDefault, tableAt, afterTable, tablesFrom, afterTables, tablesIn, tableOf, tableRight, section2Right}
 use Rattle.reading.specs.Reading.{matching, valueOf, afterMatch, readWithin, readCoded, readNext}
 use Rattle.samples.specs.Differences.{storedOf, storedFrom, differences}
-use Rattle.entries.specs.Beat.{samplesInBeat}
+use Rattle.entries.specs.Section4.{samplesInBeat}
 use Rattle.shortest.specs.Shortest.{areBits}
 use Rattle.shortest.specs.InnerRule.{twos, holds, equal, serves, kindOf, wordOf}
 use Rattle.shortest.proofs.Existence.{readsIt}
 use Rattle.shortest.proofs.Certificate.{takes, outside-none}
 use Rattle.encode.specs.declared.Coded.{Coded}
-use Rattle.encode.specs.Encoding.{tablesGiven, tablesGivenRight, foundRefusal, Encoded, refused, answered}
+use Rattle.encode.specs.Encoding.{tablesGiven, tablesGivenRight, foundRefusal, LeadEncoding, refused, answered}
 use Rattle.trip.proofs.Compose.{given-right}
 use Rattle.fields.specs.Identifier.{same}
 use Rattle.answers.proofs.Fewest.{asked}
@@ -30,7 +30,7 @@ use Rattle.answers.specs.Examples.{twoTables, namedDefault, readMany, va
 
 -- P9's third value has more than 16 bits
 refused-15 : {s2 work out : List ℕ} {a : Coded} {w o : List ℕ} → tablesGivenRight s2 ≡ true → 3 * length (tablesGiven s2) ≤ length work
-    → Encoded s2 samplesP9 2 work out a w o → a .refusal ≡ 15
+    → LeadEncoding s2 samplesP9 2 work out a w o → a .refusal ≡ 15
 unfolding samplesP9 differences storedFrom storedOf foundRefusal
 refused-15 {s2 = s2} {work = work} right room (refused n e) =
     absurd (omega (arith, sym (asked s2 3 2 (length work) right (omega arith) (omega arith) (omega arith) room) ∙ e))

@@ -14,11 +14,11 @@ use Rattle.reading.specs.Reading.{Next, gave, stuck, readNext}
 use Rattle.samples.specs.Differences.{sampleOf}
 use Rattle.samples.specs.Trace.{Trace, rebuilt, fault, fits16, behind, afterSample, afterTrace}
 use Rattle.traces.specs.Rebuilding.{afterNext, rebuildFrom, rebuild}
-use Rattle.entries.specs.Leads.{firstSample}
-use Rattle.entries.specs.Streams.{orderOf, streamOf}
+use Rattle.entries.specs.Section3.{firstSample}
+use Rattle.entries.specs.Sections5And6.{orderOf, streamOf}
 use Rattle.beats.specs.Sums.{beatPlace, beatValueAt, addBeat}
-use Rattle.rules.specs.Rules.{leadCountOf, beatSubtracted, beatSampleCount}
-use Rattle.leads.specs.Leads.{tablesOf, streamTrace, sampleCountAt, residual, traceAt}
+use Rattle.rules.specs.LeadRules.{leadCountOf, beatSubtracted, beatSampleCount}
+use Rattle.leads.specs.LeadTrace.{tablesOf, streamTrace, sampleCountAt, residual, traceAt}
 
 -- a fault that streams have is 12, 13 or 14
 abbrev Fault : Trace → Type 0
@@ -61,7 +61,7 @@ fault-added s beat n [] = tt
 fault-added s beat n (x ∷ xs) =
     fault-sample (λ y. addBeat s beat (n + 1) xs) (x +ℤ beatValueAt beat (beatPlace s n)) (λ y. fault-added s beat (n + 1) xs)
 
-fault-after : (goOn : List ℤ → Trace) (t : Trace) → Fault t → ((xs : List ℤ) → Fault (goOn xs)) → Fault (afterTrace goOn t)
+fault-after : (goOn : List ℤ → Trace) (t : Trace) → Fault t → ((xs : List ℤ) → Fault (goOn xs)) → Fault (afterTrace t goOn)
 fault-after goOn (rebuilt xs) h g = g xs
 fault-after goOn (fault n) h g = h
 
@@ -74,9 +74,8 @@ fault-trace r k = go (beatSubtracted r)
         fault-rebuilt (tablesOf r) (orderOf (sectionOf r section)) count 0 (pos 0) (pos 0) 1 (bitsIn (streamOf (leadCountOf r) (sectionOf r section) k))
 
     go : (b : Bool) → Fault (cond b
-        (afterTrace
-        (λ beat. afterTrace (λ xs. addBeat (sectionOf r 4) beat (firstSample (sectionOf r 3) k) xs) (residual r k))
-        (streamTrace r 5 (beatSampleCount r) k))
+        (afterTrace (streamTrace r 5 (beatSampleCount r) k)
+        (λ beat. afterTrace (residual r k) (λ xs. addBeat (sectionOf r 4) beat (firstSample (sectionOf r 3) k) xs)))
         (residual r k))
     go true =
         fault-after _ (streamTrace r 5 (beatSampleCount r) k) (one 5 (beatSampleCount r))

@@ -3,14 +3,15 @@ use Prim.Native.Nat.{ℕ, _+_, _*_, _≤_, _<_}
 use mathlib.Core.Path.{_≡_, refl, sym, ap, _∙_}
 use mathlib.Core.Bool.{Bool, true, false, cond}
 use mathlib.Core.List.{List, [], _∷_, _++_, append-nil, append-assoc}
+use mathlib.Core.Logic.{_↔_}
 use mathlib.Core.Option.{Option, none, some}
 use native.Mathlib.Omega.{arith}
-use lib.Dec.{leb}
-use borrow.Author.Tests.{leb-true, leb-false, le-leb}
+use lib.Dec.{leb, ltb}
+use borrow.Author.Tests.{leb-true, leb-false, le-leb, ltb-true}
 use lib.IntN.{ℤ, pos}
-use lib.ListN.{length, length-append}
+use lib.ListN.{length, drop, length-append}
 use lib.Seq.{take-append-seam}
-use Rattle.wire.specs.Rules.{every, unless}
+use Rattle.wire.specs.RuleWords.{every, unless}
 use Rattle.bits.proofs.Laws.{Small, small-take}
 use Rattle.tables.specs.declared.Structure.{Structure}
 use Rattle.tables.specs.Section2.{tableRight}
@@ -19,17 +20,18 @@ use Rattle.samples.specs.Differences.{storedOf, sampleOf, storedFrom, differenc
 use Rattle.samples.specs.Trace.{Trace, rebuilt, fault, fits16, behind, afterSample}
 use Rattle.samples.proofs.Laws.{stored-sample}
 use Rattle.traces.specs.Rebuilding.{afterNext, rebuildFrom, rebuild}
-use Rattle.packing.specs.Packing.{bytesFor}
+use Rattle.packing.specs.Packing.{bytesFor, packed}
+use Rattle.paths.proofs.Compared.{compared-unique}
 use Rattle.shortest.specs.Shortest.{ReadsTo, done, value, Stream, Shortest}
 use Rattle.shortest.proofs.Laws.{bits-small, small-bits}
 use Rattle.shortest.proofs.Cut.{next-cut}
 use Rattle.encode.specs.declared.Coded.{Coded}
-use Rattle.encode.specs.Encoding.{tablesGiven, askedRight, tablesGivenRight, workRight, askedRefusal, Found, foundRefusal, codedAs, outAs, Encoded, refused, answered}
+use Rattle.encode.specs.Encoding.{tablesGiven, askedRight, tablesGivenRight, workRight, askedRefusal, SearchFinds, foundRefusal, codedAs, outAs, LeadEncoding, refused, answered}
 use Rattle.wire.proofs.Laws.{kept-first, unlike}
 use Rattle.trip.proofs.Traces.{rebuilt-from}
 use Rattle.trip.proofs.Compose.{given-right}
-use Rattle.answers.specs.Demands.{StreamFor, FewestBits, Encodes, long, short, coded}
-use Rattle.answers.specs.Demands as D
+use Rattle.answers.specs.Demands.{StreamFor, BeginsWithStream, FewestBits, EncodingDue}
+use Rattle.answers.proofs.Cases.{Case, first, second, third, fourth, Apart, exactly}
 
 -- ---- what is rebuilt to samples begins with a stream for their differences
 
@@ -38,6 +40,7 @@ record Begins (tables : List (List Structure)) (t : ℕ) (bs : List ℕ) (vs : L
   pub rest : List ℕ
   pub whole : stream ++ rest ≡ bs
   pub reads : ReadsTo tables t stream vs
+  pub few : length rest < 8
 
 -- a trace behind a sample is a trace of samples where the whole is
 record Behind (x y : ℤ) (xs : List ℤ) (t : Trace) : Type 0 where
@@ -57,7 +60,12 @@ module _ (n : ℕ) (tables : List (List Structure)) (right : every (tableRight n
   begins : (xs : List ℤ) (place : ℕ) (last other : ℤ) (t : ℕ) (bs : List ℕ) → Small bs
       → rebuildFrom tables order (length xs) place last other t bs ≡ rebuilt xs → Begins tables t bs (storedFrom order place last other xs)
   unfolding rebuildFrom storedFrom afterSample
-  begins [] place last other t bs small h = record { stream = []; rest = bs; whole = refl; reads = done }
+  begins [] place last other t bs small h =
+      record { stream = []; rest = bs; whole = refl; reads = done; few = left-few (ltb (length bs) 8) refl h }
+    where
+      left-few : (b : Bool) → ltb (length bs) 8 ≡ b → cond b (rebuilt []) (fault 14) ≡ rebuilt [] → length bs < 8
+      left-few true e g = ltb-true (length bs) 8 e
+      left-few false e g = unlike cc
   begins (x ∷ xs) place last other t bs small h = go (readNext tables t bs) refl h (begins xs (place + 1) x last)
     where
       go : (o : Next) → readNext tables t bs ≡ o → afterNext
@@ -78,6 +86,7 @@ module _ (n : ℕ) (tables : List (List Structure)) (right : every (tableRight n
             rest = f .rest;
             whole = append-assoc (c .word) (f .stream) (f .rest) ∙ rw (f .whole) (c .whole);
             reads = rw (← v-is) (value (c .again (f .stream)) (f .reads));
+            few = f .few;
           }
 
   -- ---- the shortest stream for the differences has the fewest bits for the samples
@@ -94,42 +103,105 @@ module _ (n : ℕ) (tables : List (List Structure)) (right : every (tableRight n
     reads = ap (rebuild tables order (length xs)) (sym (append-nil bs)) ∙ rebuilds-with xs bs [] fit s (omega arith);
   }
 
-  -- and what is rebuilt to the samples has such a stream in it, with no more bits
-  pub record Inside (xs : List ℤ) (bs : List ℕ) : Type 0 where
-    pub stream : List ℕ
-    pub reads : Stream tables (differences order xs) stream
-    pub fewer : length stream ≤ length bs
-
-  pub inside : (xs : List ℤ) (bs : List ℕ) → StreamFor tables order xs bs → Inside xs bs
+  -- and what is rebuilt to the samples begins with such a stream, with fewer than 8 bits behind it
+  pub inside : (xs : List ℤ) (bs : List ℕ) → StreamFor tables order xs bs → BeginsWithStream tables order xs bs
   unfolding rebuild differences
   inside xs bs s =
       let small = bits-small bs (s .bits) in
       let b = begins xs 0 (pos 0) (pos 0) 1 bs small (s .reads) in
-      let l = length-append (b .stream) (b .rest) in
+      let own = small-take (length (b .stream)) (b .stream ++ b .rest) (rw (← b .whole) at small) in
       record {
+        bits = s .bits;
         stream = b .stream;
-        reads = record { bits = small-bits (b .stream) (rw (take-append-seam (b .stream) (b .rest)) at (small-take (length (b .stream)) (b .stream ++ b .rest) (rw (← b .whole) at small))); reads = b .reads };
-        fewer = omega (arith, l, ap length (b .whole));
+        rest = b .rest;
+        whole = b .whole;
+        reads = record { bits = small-bits (b .stream) (rw (take-append-seam (b .stream) (b .rest)) at own); reads = b .reads };
+        few = b .few;
       }
+
+  -- the one is so exactly if the other is
+  pub undone : (xs : List ℤ) (bs : List ℕ) → every fits16 xs ≡ true → StreamFor tables order xs bs ↔ BeginsWithStream tables order xs bs
+  undone xs bs fit = (
+    inside xs bs,
+    λ b. record { bits = b .bits; reads = rw (← b .whole) (rebuilds-with xs (b .stream) (b .rest) fit (b .reads) (b .few)) },
+  )
+
+  -- where bits that are rebuilt to the samples are no more than a shortest stream has, they are a stream, with nothing behind it
+  whole-stream : (xs : List ℤ) (bs other : List ℕ) → Shortest tables (differences order xs) bs → (o : BeginsWithStream tables order xs other)
+      → length other ≡ length bs → Stream tables (differences order xs) other
+  whole-stream xs bs other s o e = go (o .rest) (o .whole) (length-append (o .stream) (o .rest))
+    where
+      go : (rest : List ℕ) → o .stream ++ rest ≡ other → length (o .stream ++ rest) ≡ length (o .stream) + length rest
+          → Stream tables (differences order xs) other
+      go [] h l = rw (← h, append-nil (o .stream)) (o .reads)
+      go (b ∷ rest) h l = absurd (omega (arith, s .fewest (o .stream) (o .reads), l, ap length h, e))
 
   pub fewest : (xs : List ℤ) (bs : List ℕ) → every fits16 xs ≡ true → Shortest tables (differences order xs) bs → FewestBits tables order xs bs
   fewest xs bs fit s = record {
     stream = rebuilds xs bs fit (s .stream);
-    fewest = λ other o. let i = inside xs other o in omega (arith, s .fewest (i .stream) (i .reads), i .fewer);
+    fewest = λ other o.
+        let i = inside xs other o in
+        omega (arith, s .fewest (i .stream) (i .reads), length-append (i .stream) (i .rest), ap length (i .whole));
+    smaller = λ other o e. s .smaller other (whole-stream xs bs other s (inside xs other o) e) e;
   }
 
-  -- what encoding comes to, once a stream is looked for
-  encodes : (xs : List ℤ) (out : List ℕ) → every fits16 xs ≡ true → (found : Option (List ℕ)) → Found tables (differences order xs) found
-      → Encodes tables order xs out (codedAs (foundRefusal (length out) found) found) (outAs (foundRefusal (length out) found) found out)
+  -- no two have the fewest bits
+  pub fewest-one : {xs : List ℤ} {bs cs : List ℕ} → FewestBits tables order xs bs → FewestBits tables order xs cs → bs ≡ cs
+  fewest-one {bs = bs} {cs = cs} f g =
+      compared-unique bs cs (f .fewest cs (g .stream)) (g .fewest bs (f .stream)) (f .smaller cs (g .stream)) (g .smaller bs (f .stream))
+
+  -- ---- what encoding answers, once a stream is looked for
+
+  -- the four that exclude each other: no stream; too long; no room; in bounds and with room
+  abbrev Without : List ℤ → Type 0
+  Without xs = (bs : List ℕ) → StreamFor tables order xs bs → ⊥
+
+  abbrev Long : List ℤ → Type 0
+  Long xs = (bs : List ℕ) × FewestBits tables order xs bs × (65535 < bytesFor (length bs))
+
+  abbrev Short : List ℤ → List ℕ → Type 0
+  Short xs out = (bs : List ℕ) × FewestBits tables order xs bs × (bytesFor (length bs) ≤ 65535) × (length out < bytesFor (length bs))
+
+  abbrev Fits : List ℤ → List ℕ → Type 0
+  Fits xs out = (bs : List ℕ) × FewestBits tables order xs bs × (bytesFor (length bs) ≤ 65535) × (bytesFor (length bs) ≤ length out)
+
+  exclude : (xs : List ℤ) (out : List ℕ) → Apart (Without xs) (Long xs) (Short xs out) (Fits xs out)
+  exclude xs out = record {
+    first-second = λ p q. p (q .0) (q .1 .stream);
+    first-third = λ p q. p (q .0) (q .1 .stream);
+    first-fourth = λ p q. p (q .0) (q .1 .stream);
+    second-third = λ p q. let e = ap length (fewest-one (p .1) (q .1)) in omega (arith, p .2, q .2, ap bytesFor e);
+    second-fourth = λ p q. let e = ap length (fewest-one (p .1) (q .1)) in omega (arith, p .2, q .2, ap bytesFor e);
+    third-fourth = λ p q. let e = ap length (fewest-one (p .1) (q .1)) in omega (arith, p .3, q .3, ap bytesFor e);
+  }
+
+  due : (xs : List ℤ) (out : List ℕ) (a : Coded) (o : List ℕ) → Case (a .refusal) (Without xs) (Long xs) (Short xs out) (Fits xs out)
+      → ((bs : List ℕ) → FewestBits tables order xs bs → a .refusal ≡ 0
+      → (a ≡ record { refusal = 0; bytes = bytesFor (length bs); bits = length bs }) × (o ≡ packed bs ++ drop (bytesFor (length bs)) out))
+      → EncodingDue tables order xs out a o
+  due xs out a o c shown =
+      let d = exactly (a .refusal) c (exclude xs out) in
+      record { no-code = d .0; too-long = d .1; no-room = d .2; coded = d .3; answered = shown }
+
+  encodes : (xs : List ℤ) (out : List ℕ) → every fits16 xs ≡ true → (found : Option (List ℕ)) → SearchFinds tables (differences order xs) found
+      → EncodingDue tables order xs out (codedAs (foundRefusal (length out) found) found) (outAs (foundRefusal (length out) found) found out)
   unfolding foundRefusal
-  encodes xs out fit none nothing = D.none (λ bs s. let i = inside xs bs s in nothing (i .stream) (i .reads))
+  encodes xs out fit none nothing =
+      due xs out _ out (first refl (λ bs s. let i = inside xs bs s in nothing (i .stream) (i .reads))) (λ bs f e. absurd (omega arith))
   encodes xs out fit (some bs) s = go (leb (bytesFor (length bs)) 65535) refl (leb (bytesFor (length bs)) (length out)) refl
     where
+      own : FewestBits tables order xs bs
+      own = fewest xs bs fit s
+
       go : (within : Bool) → leb (bytesFor (length bs)) 65535 ≡ within → (room : Bool) → leb (bytesFor (length bs)) (length out) ≡ room
-          → Encodes tables order xs out (codedAs (unless within 16 (unless room 11 0)) (some bs)) (outAs (unless within 16 (unless room 11 0)) (some bs) out)
-      go false e room f = long bs (fewest xs bs fit s) (leb-false (bytesFor (length bs)) 65535 e)
-      go true e false f = short bs (fewest xs bs fit s) (leb-true (bytesFor (length bs)) 65535 e) (leb-false (bytesFor (length bs)) (length out) f)
-      go true e true f = coded bs (fewest xs bs fit s) (leb-true (bytesFor (length bs)) 65535 e) (leb-true (bytesFor (length bs)) (length out) f)
+          → EncodingDue tables order xs out (codedAs (unless within 16 (unless room 11 0)) (some bs)) (outAs (unless within 16 (unless room 11 0)) (some bs) out)
+      go false e room f = due xs out _ out (second refl (bs, own, leb-false (bytesFor (length bs)) 65535 e)) (λ cs f e. absurd (omega arith))
+      go true e false f =
+          due xs out _ out (third refl (bs, own, leb-true (bytesFor (length bs)) 65535 e, leb-false (bytesFor (length bs)) (length out) f))
+          (λ cs f e. absurd (omega arith))
+      go true e true f =
+          due xs out _ _ (fourth refl (bs, own, leb-true (bytesFor (length bs)) 65535 e, leb-true (bytesFor (length bs)) (length out) f))
+          (λ cs f e. rw (fewest-one f own) (refl, refl))
 
 -- ---- encoding a lead
 
@@ -141,8 +213,8 @@ asked s2 count order work right least most two room =
     rw (le-leb 1 count least, le-leb count 65536 most, le-leb order 2 two, right, le-leb (count * length (tablesGiven s2)) work room)
 
 pub encoding : {s2 : List ℕ} {xs : List ℤ} {order : ℕ} {work out : List ℕ} {a : Coded} {w o : List ℕ} → tablesGivenRight s2 ≡ true
-    → askedRefusal s2 (length xs) order (length work) ≡ 0 → every fits16 xs ≡ true → Encoded s2 xs order work out a w o
-    → Encodes (tablesGiven s2) order xs out a o
+    → askedRefusal s2 (length xs) order (length work) ≡ 0 → every fits16 xs ≡ true → LeadEncoding s2 xs order work out a w o
+    → EncodingDue (tablesGiven s2) order xs out a o
 encoding right kept fit (refused n e) = absurd (omega (arith, sym kept ∙ e))
 encoding {s2 = s2} {xs = xs} {order = order} {out = out} right kept fit (answered found e F) =
     let g = given-right s2 right in

@@ -2,6 +2,7 @@ pub mod Laws
 pub mod Identifiers
 pub mod Faults
 pub mod Refusals
+pub mod Cases
 pub mod Fewest
 pub mod Acceptance
 pub mod Written

@@ -1,12 +1,12 @@
 -- Any two outcomes that a public contract allows are equal. Assumes nothing.
 use Prim.Native.Nat.{ℕ}
 use mathlib.Core.Path.{_≡_, sym, _∙_, ap₂}
-use Rattle.record.specs.declared.Opened.{Opened}
+use Rattle.scp.specs.declared.ScpOpened.{ScpOpened}
 use Rattle.encode.proofs.Unique.{encoded-unique}
 use Rattle.compose.proofs.Unique.{wrote-unique}
 use Rattle.answers.specs.Demands.{OneOutcome}
 
-opened : (a b : Opened) → a .refusal ≡ b .refusal → a .count ≡ b .count → a ≡ b
+opened : (a b : ScpOpened) → a .refusal ≡ b .refusal → a .count ≡ b .count → a ≡ b
 opened a b e f = ap₂ (λ (n m : ℕ). record { refusal = n; count = m }) e f
 
 pub outcomes : OneOutcome

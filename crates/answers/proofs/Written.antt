@@ -3,15 +3,16 @@
 use Prim.Native.Nat.{ℕ, zero, suc, _≤_, _<_}
 use mathlib.Core.Path.{_≡_, refl, sym, ap, _∙_}
 use mathlib.Core.Bool.{Bool, true, false, _&&_, and-eq-true-iff}
-use mathlib.Core.List.{List, [], _∷_, map}
-use mathlib.Core.Logic.{inl, inr}
+use mathlib.Core.List.{List, [], _∷_, _++_, map}
+use mathlib.Core.Logic.{inl, inr, ⊎-elim}
 use mathlib.Core.Option.{Option, none, some}
 use native.Mathlib.Omega.{arith}
 use lib.Dec.{leb}
 use borrow.Author.Tests.{leb-true, leb-false}
 use lib.IntN.{ℤ}
-use lib.ListN.{length, getD}
-use Rattle.wire.specs.Rules.{every, unless}
+use lib.ListN.{length, getD, drop}
+use lib.Seq.{ext-getD}
+use Rattle.wire.specs.RuleWords.{every, unless}
 use Rattle.wire.proofs.Laws.{unlike}
 use Rattle.samples.specs.Differences.{differences}
 use Rattle.packing.specs.Packing.{bytesFor, packed}
@@ -20,13 +21,13 @@ use Rattle.shortest.specs.Shortest.{Shortest, NoStream}
 use Rattle.encode.specs.Encoding.{tablesGiven, tablesGivenRight}
 use Rattle.compose.specs.declared.Written.{Written}
 use Rattle.compose.specs.Writing as C
-use Rattle.compose.specs.Writing.{Job, cut, FoundAll, done, lead, withStream, packedAll, allShort, Wrote}
+use Rattle.compose.specs.Writing.{Job, cut, SearchFindsAll, done, lead, withStream, packedAll, allShort, RecordWriting}
 use Rattle.trip.specs.GivenBack.{JobFits, samplesOf}
 use Rattle.trip.proofs.Compose.{given-right, length-cut, cut-fits}
 use Rattle.trip.proofs.Written.{job-kept}
-use Rattle.answers.specs.Demands as D
-use Rattle.answers.specs.Demands.{FewestAll, recordWith, Writes}
-use Rattle.answers.proofs.Fewest.{inside, fewest}
+use Rattle.answers.specs.Demands.{FewestAll, recordWith, SomeWithout, TooLong, InBounds, WritingDue}
+use Rattle.answers.proofs.Cases.{Case, first, second, third, fourth, Apart, exactly}
+use Rattle.answers.proofs.Fewest.{inside, fewest, fewest-one}
 
 -- ---- what is found for all leads
 
@@ -43,7 +44,7 @@ record AllFound (s2 : List ℕ) (order : ℕ) (xss : List (List ℤ)) (packedStr
   pub many : length streams ≡ length xss
   pub shortest : (k : ℕ) → k < length xss → Shortest (tablesGiven s2) (differences order (getD xss k [])) (getD streams k [])
 
-missing : (s2 : List ℕ) (order : ℕ) {xss : List (List ℤ)} {founds : List (Option (List ℕ))} → FoundAll s2 order xss founds
+missing : (s2 : List ℕ) (order : ℕ) {xss : List (List ℤ)} {founds : List (Option (List ℕ))} → SearchFindsAll s2 order xss founds
     → packedAll founds ≡ none → Missing s2 order xss
 unfolding packedAll
 missing s2 order done h = unlike cc
@@ -55,7 +56,7 @@ missing s2 order (lead {xs = xs} {xss = xss} {found = some bs} {founds = founds}
     go (some streams) e later = unlike cc
 
 all-found : (s2 : List ℕ) (order : ℕ) {xss : List (List ℤ)} {founds : List (Option (List ℕ))} (packedStreams : List (List ℕ))
-    → FoundAll s2 order xss founds → packedAll founds ≡ some packedStreams → AllFound s2 order xss packedStreams
+    → SearchFindsAll s2 order xss founds → packedAll founds ≡ some packedStreams → AllFound s2 order xss packedStreams
 unfolding packedAll
 all-found s2 order ps done h =
     let e : ps ≡ [] = cc in
@@ -113,13 +114,15 @@ long-one (bs ∷ streams) h = go (leb (length (packed bs)) 65535) refl h (long-o
 
 module _ (j : Job) (out : List ℕ) (fits : JobFits j) (right : tablesGivenRight (j .section2) ≡ true) where
   -- a lead's samples are of 16 bits, and its tables right
-  lead-none : Missing (j .section2) (j .order) (cut (j .counts) (j .samples)) → Writes j out (D.noRecord 15) out
+  lead-none : Missing (j .section2) (j .order) (cut (j .counts) (j .samples)) → SomeWithout j
   lead-none m =
-      let tables = tablesGiven (j .section2) in
-      D.none (m .place) (rw (length-cut (j .counts) (j .samples)) at (m .there))
-      (λ bs s.
-      let i = inside (length tables) tables (given-right (j .section2) right) (j .order) (samplesOf j (m .place)) bs s in
-      m .nothing (i .stream) (i .reads))
+      let tables = tablesGiven (j .section2) in (
+        m .place,
+        rw (length-cut (j .counts) (j .samples)) at (m .there),
+        λ bs s.
+            let i = inside (length tables) tables (given-right (j .section2) right) (j .order) (samplesOf j (m .place)) bs s in
+            m .nothing (i .stream) (i .reads),
+      )
 
   all-fewest : {ps : List (List ℕ)} (f : AllFound (j .section2) (j .order) (cut (j .counts) (j .samples)) ps) → FewestAll j (f .streams)
   all-fewest f =
@@ -131,10 +134,56 @@ module _ (j : Job) (out : List ℕ) (fits : JobFits j) (right : tablesGivenRight
             (cut-fits (j .counts) (j .samples) (fits .samples) k) (f .shortest k (rw (length-cut (j .counts) (j .samples)) l));
       }
 
+  -- no two lists of streams have the fewest bits for every lead
+  all-one : {streams others : List (List ℕ)} → FewestAll j streams → FewestAll j others → streams ≡ others
+  all-one {streams = streams} {others = others} f g =
+      let tables = tablesGiven (j .section2) in
+      ext-getD [] streams others (f .leads ∙ sym (g .leads))
+      (λ k l.
+      let there : k < length (j .counts) = omega (arith, f .leads) in
+      fewest-one (length tables) tables (given-right (j .section2) right) (j .order) (f .fewest k there) (g .fewest k there))
+
+  -- the four that exclude each other
+  abbrev Long : Type 0
+  Long = (streams : List (List ℕ)) × FewestAll j streams × TooLong j streams
+
+  abbrev Short : Type 0
+  Short = (streams : List (List ℕ)) × FewestAll j streams × InBounds j streams × (length out < length (recordWith j streams))
+
+  abbrev Fits : Type 0
+  Fits = (streams : List (List ℕ)) × FewestAll j streams × InBounds j streams × (length (recordWith j streams) ≤ length out)
+
+  none-fewest : {streams : List (List ℕ)} → SomeWithout j → FewestAll j streams → ⊥
+  none-fewest {streams = streams} m f = m .2 (getD streams (m .0) []) (f .fewest (m .0) (m .1) .stream)
+
+  long-bounds : {streams others : List (List ℕ)} → FewestAll j streams → TooLong j streams → FewestAll j others → InBounds j others → ⊥
+  long-bounds {streams = streams} f long g b =
+      let e = all-one f g in
+      ⊎-elim (λ l. omega (arith, l .2, (rw (← e) at b) .each-stream (l .0) (l .1))) (λ l. omega (arith, l, (rw (← e) at b) .whole)) long
+
+  exclude : Apart (SomeWithout j) Long Short Fits
+  exclude = record {
+    first-second = λ p q. none-fewest p (q .1);
+    first-third = λ p q. none-fewest p (q .1);
+    first-fourth = λ p q. none-fewest p (q .1);
+    second-third = λ p q. long-bounds (p .1) (p .2) (q .1) (q .2);
+    second-fourth = λ p q. long-bounds (p .1) (p .2) (q .1) (q .2);
+    third-fourth = λ p q. omega (arith, p .3, q .3, ap (λ (l : List (List ℕ)). length (recordWith j l)) (all-one (p .1) (q .1)));
+  }
+
+  due : (a : Written) (o : List ℕ) → Case (a .refusal) (SomeWithout j) Long Short Fits
+      → ((streams : List (List ℕ)) → FewestAll j streams → a .refusal ≡ 0
+      → (a ≡ record { refusal = 0; bytes = length (recordWith j streams) })
+      × (o ≡ recordWith j streams ++ drop (length (recordWith j streams)) out))
+      → WritingDue j out a o
+  due a o c shown =
+      let d = exactly (a .refusal) c exclude in
+      record { no-code = d .0; too-long = d .1; no-room = d .2; written = d .3; answered = shown }
+
   -- by the bounds and the room
   by-bounds : (streams : List (List ℕ)) → FewestAll j streams
       → (let number = C.recordRefusal j (length out) (some (map packed streams)) in
-      Writes j out (C.writtenAs j number (some (map packed streams))) (C.recordOut j number (some (map packed streams)) out))
+      WritingDue j out (C.writtenAs j number (some (map packed streams))) (C.recordOut j number (some (map packed streams)) out))
   unfolding C.recordRefusal
   by-bounds streams few = go (allShort (map packed streams)) refl (leb (length (recordWith j streams)) 1048576) refl
       (leb (length (recordWith j streams)) (length out)) refl
@@ -142,27 +191,29 @@ module _ (j : Job) (out : List ℕ) (fits : JobFits j) (right : tablesGivenRight
       go : (a : Bool) → allShort (map packed streams) ≡ a → (b : Bool) → leb (length (recordWith j streams)) 1048576 ≡ b → (c : Bool)
           → leb (length (recordWith j streams)) (length out) ≡ c
           → (let number = unless (a && b) 16 (unless c 11 0) in
-          Writes j out (C.writtenAs j number (some (map packed streams))) (C.recordOut j number (some (map packed streams)) out))
-      go false e b f c g = D.long streams few (inl (long-one streams e))
-      go true e false f c g = D.long streams few (inr (leb-false (length (recordWith j streams)) 1048576 f))
+          WritingDue j out (C.writtenAs j number (some (map packed streams))) (C.recordOut j number (some (map packed streams)) out))
+      go false e b f c g = due _ out (second refl (streams, few, inl (long-one streams e))) (λ s f e. absurd (omega arith))
+      go true e false f c g =
+          due _ out (second refl (streams, few, inr (leb-false (length (recordWith j streams)) 1048576 f))) (λ s f e. absurd (omega arith))
       go true e true f false g =
-          D.short streams few
-          (record { each-stream = short-each streams e; whole = leb-true (length (recordWith j streams)) 1048576 f })
-          (leb-false (length (recordWith j streams)) (length out) g)
+          due _ out
+          (third refl (streams, few, record { each-stream = short-each streams e; whole = leb-true (length (recordWith j streams)) 1048576 f }, leb-false (length (recordWith j streams)) (length out) g))
+          (λ s f e. absurd (omega arith))
       go true e true f true g =
-          D.written streams few
-          (record { each-stream = short-each streams e; whole = leb-true (length (recordWith j streams)) 1048576 f })
-          (leb-true (length (recordWith j streams)) (length out) g)
+          due _ _
+          (fourth refl (streams, few, record { each-stream = short-each streams e; whole = leb-true (length (recordWith j streams)) 1048576 f }, leb-true (length (recordWith j streams)) (length out) g))
+          (λ s f e. rw (all-one f few) (refl, refl))
 
-  by-found : (founds : List (Option (List ℕ))) → FoundAll (j .section2) (j .order) (cut (j .counts) (j .samples)) founds
+  by-found : (founds : List (Option (List ℕ))) → SearchFindsAll (j .section2) (j .order) (cut (j .counts) (j .samples)) founds
       → (o : Option (List (List ℕ))) → packedAll founds ≡ o
-      → Writes j out (C.writtenAs j (C.recordRefusal j (length out) o) o) (C.recordOut j (C.recordRefusal j (length out) o) o out)
+      → WritingDue j out (C.writtenAs j (C.recordRefusal j (length out) o) o) (C.recordOut j (C.recordRefusal j (length out) o) o out)
   unfolding C.recordRefusal
-  by-found founds F none e = lead-none (missing (j .section2) (j .order) F e)
+  by-found founds F none e =
+      due _ out (first refl (lead-none (missing (j .section2) (j .order) F e))) (λ s f e. absurd (omega arith))
   by-found founds F (some ps) e = let f = all-found (j .section2) (j .order) ps F e in rw (f .bytes) (by-bounds (f .streams) (all-fewest f))
 
-pub writes : {j : Job} {work out : List ℕ} {a : Written} {w o : List ℕ} → JobFits j → C.jobRefusal j (length work) ≡ 0 → Wrote j work out a w o
-    → Writes j out a o
+pub writes : {j : Job} {work out : List ℕ} {a : Written} {w o : List ℕ} → JobFits j → C.jobRefusal j (length work) ≡ 0 → RecordWriting j work out a w o
+    → WritingDue j out a o
 writes fits kept (C.refused n e) = absurd (omega (arith, sym kept ∙ e))
 writes {j = j} {work = work} {out = out} fits kept (C.answered founds e F) =
     by-found j out fits (job-kept j (length work) e .2) founds F (packedAll founds) refl

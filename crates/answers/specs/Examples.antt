@@ -14,9 +14,9 @@ use Rattle.tables.specs.Section2.{tablesIn, section2Right}
 use Rattle.reading.specs.Reading.{Next, gave, stuck, readNext}
 use Rattle.shortest.specs.Shortest.{Takes}
 use Rattle.encode.specs.declared.Coded.{Coded}
-use Rattle.encode.specs.Encoding.{tablesGiven, tablesGivenRight, Encoded}
+use Rattle.encode.specs.Encoding.{tablesGiven, tablesGivenRight, LeadEncoding}
 use Rattle.samples.specs.Differences.{differences}
-use Rattle.entries.specs.Beat.{samplesInBeat}
+use Rattle.entries.specs.Section4.{samplesInBeat}
 use Rattle.fields.specs.Identifier.{same}
 
 -- Section 2's data of the two tables of 000, C.2.7.3
@@ -102,7 +102,7 @@ pub record Examples : Type 0 where
   -- P9: the third value stored, and the refusal, by any tables that are right or by none, with work space enough and whatever the output
   pub p9-values : differences 2 samplesP9 ≡ negsuc 32767 ∷ pos 32767 ∷ negsuc 131069 ∷ []
   pub p9 : (s2 work out : List ℕ) (a : Coded) (w o : List ℕ) → tablesGivenRight s2 ≡ true → 3 * length (tablesGiven s2) ≤ length work
-      → Encoded s2 samplesP9 2 work out a w o → a .refusal ≡ 15
+      → LeadEncoding s2 samplesP9 2 work out a w o → a .refusal ≡ 15
   -- P10: what the two fields show, and that it is not the same
   pub p10-fields : (stepAt field007 0 ≡ Found (record { tag = 2; start = 3; end = 7 })) × (part field007 3 7 ≡ id007)
       × (stepAt field7 0 ≡ Found (record { tag = 2; start = 3; end = 5 })) × (part field7 3 5 ≡ id7)

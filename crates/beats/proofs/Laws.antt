@@ -11,7 +11,7 @@ use lib.IntN.{ℤ, pos, _+ℤ_}
 use lib.ListN.{length, getD, drop, drop-of-length-le}
 use lib.Seq.{drop-cons}
 use Rattle.wire.proofs.Laws.{all-at, unlike}
-use Rattle.entries.specs.Beat.{fiducialOf, qrsCount, qrsType, zoneBegin, qrsFiducial, zoneEnd, lastBefore, zoneRight, section4Right}
+use Rattle.entries.specs.Section4.{fiducialOf, qrsCount, qrsType, zoneBegin, qrsFiducial, zoneEnd, lastBefore, zoneRight, section4Right}
 use Rattle.samples.specs.Trace.{Trace, rebuilt, fault, fits16, behind, afterSample}
 use Rattle.beats.specs.Sums.{inZone, beatPlaceFrom, beatPlace, beatValueAt, addBeat}
 use Rattle.beats.specs.InnerZones.{Alike}

@@ -12,7 +12,7 @@ use lib.ListN.{length, getD, take, drop, set, length-set}
 use lib.Seq.{take-all, take-suc-set, getD-set-other}
 use Rattle.bits.specs.InnerRaised.{lower}
 use Rattle.bits.proofs.Raised.{lower-plus, lower-same}
-use Rattle.entries.specs.Beat.{qrsCount}
+use Rattle.entries.specs.Section4.{qrsCount}
 use Rattle.samples.specs.Trace.{rebuilt, fault, fits16}
 use Rattle.samples.specs.InnerTrace.{before}
 use Rattle.samples.proofs.Laws.{before-none, before-more, fits-lower}

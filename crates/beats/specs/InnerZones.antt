@@ -2,7 +2,7 @@
 use Prim.Native.Nat.{ℕ, _-_, _≤_, _<_}
 use mathlib.Core.Path.{_≡_}
 use mathlib.Core.List.{List}
-use Rattle.entries.specs.Beat.{qrsType, zoneEnd}
+use Rattle.entries.specs.Section4.{qrsType, zoneEnd}
 use Rattle.beats.specs.Sums.{beatPlaceFrom}
 
 -- zone k, where there is one, is of type 0 and does not end before sample n

@@ -4,7 +4,7 @@ ghost use mathlib.Core.Bool.{true, false};
 ghost use Prim.Native.Nat.{ℕ, _+_, _-_, _<_, _≤_};
 ghost use lib.ListN.{length};
 ghost use Rattle.bits.specs.InnerRaised.{lower};
-ghost use Rattle.entries.specs.Beat.{qrsCount, qrsType, zoneEnd, section4Right};
+ghost use Rattle.entries.specs.Section4.{qrsCount, qrsType, zoneEnd, section4Right};
 ghost use Rattle.samples.specs.InnerTrace.{traceOf};
 ghost use Rattle.beats.specs.Sums.{inZone, beatPlaceFrom, beatValueAt, addBeat};
 ghost use Rattle.beats.specs.InnerZones.{Reaches, Alike};

@@ -29,8 +29,8 @@ numberAfter a (b ∷ bs) = numberAfter (a * 2 + b) bs
 abbrev pub numberOf : List ℕ → ℕ
 numberOf bs = numberAfter 0 bs
 
--- the whole number that w bits are in two's complement, n being the number that they are without a sign; `negsuc m` is -(m + 1), so
--- that the second case is n - 2^w
+-- the whole number that w bits are in two's complement, n being the number that they are without a sign. A whole number is `pos m`,
+-- which is m, or `negsuc m`, which is -(m + 1): the second case is n - 2^w
 unfoldable pub signed : ℕ → ℕ → ℤ
 signed w n = cond (ltb n (2 ^ (w - 1))) (pos n) (negsuc (2 ^ w - suc n))
 

@@ -12,13 +12,12 @@ use lib.Dec.{ltb}
 use lib.ListN.{length, getD, set, take, drop, length-set, List·getD-append, List·getD-eq-default}
 use lib.Seq.{length-take-le, getD-take, getD-drop, getD-append-add, getD-set-same, getD-set-other, drop-drop}
 use Rattle.wire.specs.Numbers.{numberAt}
-use Rattle.wire.specs.Rules.{every}
+use Rattle.wire.specs.RuleWords.{every}
 use Rattle.tables.specs.declared.Structure.{Structure}
-use Rattle.tables.specs.Structures.{structureAt, structuresAt}
+use Rattle.tables.specs.Structures.{structureAt, structuresAt, noStructure}
 use Rattle.tables.specs.Default.{defaultTable, twoValues, valued}
 use Rattle.tables.specs.Section2.{tableAt, afterTable, tablesFrom, tableRight}
 use Rattle.tables.proofs.Laws.{every-at, right-at, tables-cons}
-use Rattle.tables.specs.InnerStructures.{noStructure}
 use Rattle.compiled.specs.declared.Form.{Form}
 use Rattle.compiled.specs.InnerForm.{formOf, formAt, numbersOf, Says, Beside, TwoBytes, SameTables, Ready}
 use Rattle.compiled.proofs.Laws.{held-count}

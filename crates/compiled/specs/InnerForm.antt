@@ -8,12 +8,11 @@ use mathlib.Core.List.{List, [], _∷_}
 use mathlib.Core.Logic.{_⊎_}
 use lib.Dec.{eqb}
 use lib.ListN.{length, getD}
-use Rattle.wire.specs.Rules.{every}
+use Rattle.wire.specs.RuleWords.{every}
 use Rattle.bits.specs.InnerWindow.{turned}
 use Rattle.tables.specs.declared.Structure.{Structure}
-use Rattle.tables.specs.Structures.{remainderOf}
+use Rattle.tables.specs.Structures.{remainderOf, noStructure}
 use Rattle.tables.specs.Section2.{tableRight}
-use Rattle.tables.specs.InnerStructures.{noStructure}
 use Rattle.compiled.specs.declared.Form.{Form}
 
 -- the values that a structure serves, 131,072 added so that no sign is needed: from `lowest` up to `beyond`, which is left out

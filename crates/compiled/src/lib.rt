@@ -6,7 +6,7 @@ ghost use mathlib.Core.Bool.{true};
 ghost use mathlib.Core.List.{[], _++_};
 ghost use Prim.Native.Nat.{ℕ, _+_, _*_, _/_, _^_, _<_, _≤_};
 ghost use lib.ListN.{length, getD, take, drop};
-ghost use Rattle.wire.specs.Rules.{every};
+ghost use Rattle.wire.specs.RuleWords.{every};
 ghost use Rattle.tables.specs.Structures.{structureRight, structuresAt};
 ghost use Rattle.tables.specs.Default.{defaultTable};
 ghost use Rattle.tables.specs.Section2.{section2Right, tablesIn, tablesFrom, tableRight};

@@ -9,7 +9,7 @@ use lib.Dec.{leb, eqb}
 use lib.ListN.{length, getD, drop}
 use lib.Seq.{drop-cons, drop-length}
 use lib.IntN.{ℤ}
-use Rattle.wire.specs.Rules.{allIn}
+use Rattle.wire.specs.RuleWords.{allIn}
 use Rattle.wire.proofs.Laws.{all-at, kept-first}
 use Rattle.header.specs.Header.{section1Right}
 use Rattle.encode.specs.Encoding.{tablesGiven, tablesGivenRight, workRight}

@@ -10,7 +10,7 @@ use borrow.Author.Tests.{le-leb, lt-leb, leb-true, eq-eqb, ne-eqb, eqb-true, eqb
 use lib.Dec.{leb, eqb}
 use lib.IntN.{ℤ}
 use lib.ListN.{length, take, drop}
-use Rattle.wire.specs.Rules.{every, unless}
+use Rattle.wire.specs.RuleWords.{every, unless}
 use Rattle.packing.specs.Packing.{bytesFor, packed}
 use Rattle.packing.proofs.Laws.{length-packed}
 use Rattle.layout.specs.Layout.{sectionBytes, zeroReserved, leadsData, streamsData, recordBytes}
@@ -19,7 +19,7 @@ use Rattle.encode.specs.Encoding.{workSearched}
 use Rattle.compose.specs.declared.Written.{Written}
 use Rattle.compose.specs.declared.Head.{Head}
 use Rattle.compose.specs.Writing.{Job, jobOf, jobRefusal, cut, packedAll, allShort, recordOf, recordRefusal, writtenAs, recordOut}
-use Rattle.compose.specs.Writing.{Wrote, refused, answered}
+use Rattle.compose.specs.Writing.{RecordWriting, refused, answered}
 use Rattle.compose.specs.InnerSizes.{numberWith, numberFor, SizedAs}
 use Rattle.compose.specs.InnerJob.{frontSize, sizeWith, refusalFor, answerOf, Streamed}
 use Rattle.compose.proofs.Laws.{job-listed}
@@ -140,7 +140,7 @@ module _ (j : Job) (sizes : List ℕ) (number : ℕ) (firsts : length (j .firsts
 
 module _ (j : Job) (work out : List ℕ) where
   pub wrote-refused : (n : ℕ) (r : Written) → n ≡ jobRefusal j (length work) → (n ≡ 0 → ⊥) → r ≡ record { refusal = n; bytes = 0 }
-      → Wrote j work out r work out
+      → RecordWriting j work out r work out
   wrote-refused zero r e h f = absurd (h refl)
   wrote-refused (suc m) r e h f = rw f (refused m (sym e))
 
@@ -160,16 +160,16 @@ module _ (s1 s2 : List ℕ) (head : Head) (firsts counts ids : List ℕ) (xs : L
       refusal-is j (F .sizes) (F .number) (l .0) (l .1) (F .each) (F .sized) (length out)
 
   searched-as : (n : ℕ) → recordRefusal j (length out) (packedAll founds) ≡ n
-      → Wrote j work out (writtenAs j n (packedAll founds)) (workSearched s2 work) (recordOut j n (packedAll founds) out)
+      → RecordWriting j work out (writtenAs j n (packedAll founds)) (workSearched s2 work) (recordOut j n (packedAll founds) out)
   searched-as n is = rw (← is) (answered founds asked (F .sized .all))
 
   -- a refusal
-  pub wrote-judged : (r .refusal ≡ 0 → ⊥) → (work′ : List ℕ) → work′ ≡ workSearched s2 work → Wrote j work out r work′ mid
+  pub wrote-judged : (r .refusal ≡ 0 → ⊥) → (work′ : List ℕ) → work′ ≡ workSearched s2 work → RecordWriting j work out r work′ mid
   wrote-judged h work′ cleared =
       rw (cleared, F .same h) (go (recordRefusal j (length out) (packedAll founds)) refl (rw decided at (F .answer)))
     where
       go : (n : ℕ) → recordRefusal j (length out) (packedAll founds) ≡ n
-          → r ≡ answerOf n (sizeWith (length s1) (length s2) (F .sizes)) → Wrote j work out r (workSearched s2 work) out
+          → r ≡ answerOf n (sizeWith (length s1) (length s2) (F .sizes)) → RecordWriting j work out r (workSearched s2 work) out
       go zero is e = absurd (h (ap (λ (w : Written). w .refusal) e))
       go (suc n) is e = rw e (searched-as (suc n) is)
 
@@ -192,14 +192,14 @@ module _ (s1 s2 : List ℕ) (head : Head) (firsts counts ids : List ℕ) (xs : L
       → ((data6 : List ℕ) → drop (frontSize (length s1) (length s2) (length counts)) (take (r .bytes) mid)
       ≡ sectionBytes 6 (head .version) zeroReserved data6
       → ys ≡ recordBytes (head .version) s1 s2 (leadsData (head .flags) firsts counts ids) data6)
-      → Wrote j work out r work′ (ys ++ drop (r .bytes) mid)
+      → RecordWriting j work out r work′ (ys ++ drop (r .bytes) mid)
   unfolding recordOf
   wrote-put z work′ ys cleared whole = rw cleared (go (judged founds))
     where
       none-asked : F .number ≡ 0
       none-asked = nothing-refused (F .number) (sizeWith (length s1) (length s2) (F .sizes)) (length out) (asked-none z .0) .0
 
-      go : Judged founds → Wrote j work out r (workSearched s2 work) (ys ++ drop (r .bytes) mid)
+      go : Judged founds → RecordWriting j work out r (workSearched s2 work) (ys ++ drop (r .bytes) mid)
       go (inl (f, n)) = absurd (omega (arith, none-asked, F .sized .says ∙ n))
       go (inr (streams, f, n)) =
           let l = job-listed j (length work) asked in

@@ -21,7 +21,7 @@ use Rattle.layout.specs.Layout.{joined}
 use Rattle.encode.specs.Encoding.{tablesGiven}
 use Rattle.encode.specs.InnerEncode.{bitsFound, Sized}
 use Rattle.encode.proofs.Unique.{found-unique}
-use Rattle.compose.specs.Writing.{total, cut, FoundAll, done, lead, withStream, packedAll}
+use Rattle.compose.specs.Writing.{total, cut, SearchFindsAll, done, lead, withStream, packedAll}
 use Rattle.compose.specs.InnerSizes.{sizeFound, numberWith, numberFor, SizedAs, StreamOf, StreamsFor}
 use Rattle.compose.proofs.Sizes.{total-back, room-back, cut-back, lent}
 
@@ -48,7 +48,7 @@ number-zero bs later = go (leb (bytesFor (length bs)) 65535) refl
     go false e z = absurd (last (eqb later 15) z)
 
 -- lead k has a stream, where all leads have the number 0
-known-at : (s2 : List ℕ) (order : ℕ) (counts : List ℕ) (xs : List ℤ) (founds : List (Option (List ℕ))) → FoundAll s2 order
+known-at : (s2 : List ℕ) (order : ℕ) (counts : List ℕ) (xs : List ℤ) (founds : List (Option (List ℕ))) → SearchFindsAll s2 order
     (cut counts xs) founds
     → numberFor founds ≡ 0 → (k : ℕ) → k < length counts
     → StreamOf s2 order (take (getD counts k 0) (drop (total (take k counts)) xs)) (getD (map sizeFound founds) k 0)
@@ -134,7 +134,7 @@ module _ (s2 : List ℕ) (order : ℕ) (counts : List ℕ) (xs : List ℤ) (size
       drop-put part zs (from - getD sizes (k - 1) 0) from (omega arith) l ∙ go founds
       (rw (cut-back counts k h g at all here sum xs) at all′) e
     where
-      go : (founds : List (Option (List ℕ))) → FoundAll s2 order
+      go : (founds : List (Option (List ℕ))) → SearchFindsAll s2 order
           (take count (drop (at - count) xs) ∷ cut (drop k counts) (drop at xs)) founds
           → packedAll founds ≡ some streams → zs ++ drop from part ≡ joined streams
       go (none ∷ founds) (lead F rest) e = absurd (none-first founds streams e)
@@ -149,7 +149,7 @@ pub put-none : (s2 : List ℕ) (order : ℕ) (counts : List ℕ) (xs : List ℤ)
 unfolding cut joined packedAll
 put-none s2 order counts xs part streams (founds, all, e) = drop-length part ∙ go founds (rw (drop-length counts) at all) e
   where
-    go : (founds : List (Option (List ℕ))) → FoundAll s2 order [] founds → packedAll founds ≡ some streams → [] ≡ joined streams
+    go : (founds : List (Option (List ℕ))) → SearchFindsAll s2 order [] founds → packedAll founds ≡ some streams → [] ≡ joined streams
     go [] done e = rw (no-streams streams e)
 
 -- all are put
@@ -161,8 +161,8 @@ put-all s2 order counts xs part k at from z y x all = rw (z, y, x) at all
 -- ---- all streams
 
 -- one thing at most is found for the leads
-pub founds-unique : {s2 : List ℕ} {order : ℕ} {xss : List (List ℤ)} {f g : List (Option (List ℕ))} → FoundAll s2 order xss f
-    → FoundAll s2 order xss g → f ≡ g
+pub founds-unique : {s2 : List ℕ} {order : ℕ} {xss : List (List ℤ)} {f g : List (Option (List ℕ))} → SearchFindsAll s2 order xss f
+    → SearchFindsAll s2 order xss g → f ≡ g
 founds-unique done done = refl
 founds-unique (lead {found = a} {founds = f} F all) (lead {found = b} {founds = g} G other) =
     ap₂ _∷_ (found-unique _ _ a b F G) (founds-unique all other)

@@ -6,10 +6,10 @@ use mathlib.Core.Option.{Option, none}
 use native.Mathlib.Omega.{arith}
 use lib.ListN.{length}
 use Rattle.compose.specs.declared.Written.{Written}
-use Rattle.compose.specs.Writing.{Job, packedAll, recordRefusal, writtenAs, recordOut, Wrote, refused, answered}
+use Rattle.compose.specs.Writing.{Job, packedAll, recordRefusal, writtenAs, recordOut, RecordWriting, refused, answered}
 use Rattle.compose.proofs.Streams.{founds-unique}
 
-pub wrote-unique : {j : Job} {work out : List ℕ} {a b : Written} {w v o p : List ℕ} → Wrote j work out a w o → Wrote j work out b v p
+pub wrote-unique : {j : Job} {work out : List ℕ} {a b : Written} {w v o p : List ℕ} → RecordWriting j work out a w o → RecordWriting j work out b v p
     → (a ≡ b) × (w ≡ v) × (o ≡ p)
 wrote-unique {j = j} (refused n e) (refused m f) =
     let q : n ≡ m = omega (arith, sym e ∙ f) in

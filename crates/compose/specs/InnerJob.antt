@@ -6,7 +6,7 @@ use mathlib.Core.List.{List}
 use lib.Dec.{leb, eqb}
 use lib.IntN.{ℤ}
 use lib.ListN.{length, getD, take, drop}
-use Rattle.wire.specs.Rules.{unless}
+use Rattle.wire.specs.RuleWords.{unless}
 use Rattle.layout.specs.Layout.{sectionLength, sectionBytes, zeroReserved, streamsData, section2Size, recordSize}
 use Rattle.encode.specs.Encoding.{tablesGiven, tablesGivenRight}
 use Rattle.compose.specs.declared.Written.{Written}

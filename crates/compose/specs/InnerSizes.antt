@@ -12,7 +12,7 @@ use Rattle.samples.specs.Differences.{differences}
 use Rattle.shortest.specs.Shortest.{Shortest}
 use Rattle.encode.specs.Encoding.{tablesGiven}
 use Rattle.encode.specs.InnerEncode.{bitsFound}
-use Rattle.compose.specs.Writing.{FoundAll, packedAll}
+use Rattle.compose.specs.Writing.{SearchFindsAll, packedAll}
 
 -- the bytes of a stream, 65,536 for that many and more, and for no stream
 abbrev pub sizeFound : Option (List ℕ) → ℕ
@@ -30,7 +30,7 @@ numberFor (found ∷ founds) = numberWith found (numberFor founds)
 -- the number and the sizes are those of what is found for the leads
 pub record SizedAs (s2 : List ℕ) (order : ℕ) (xss : List (List ℤ)) (number : ℕ) (sizes : List ℕ) : Type 0 where
   pub founds : List (Option (List ℕ))
-  pub all : FoundAll s2 order xss founds
+  pub all : SearchFindsAll s2 order xss founds
   pub says : number ≡ numberFor founds
   pub each : sizes ≡ map sizeFound founds
 
@@ -41,4 +41,4 @@ StreamOf s2 order xs size =
 
 -- the packed streams of leads that have one each
 abbrev pub StreamsFor : List ℕ → ℕ → List (List ℤ) → List (List ℕ) → Type 0
-StreamsFor s2 order xss streams = (founds : List (Option (List ℕ))) × FoundAll s2 order xss founds × (packedAll founds ≡ some streams)
+StreamsFor s2 order xss streams = (founds : List (Option (List ℕ))) × SearchFindsAll s2 order xss founds × (packedAll founds ≡ some streams)

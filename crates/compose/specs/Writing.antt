@@ -7,12 +7,12 @@ use mathlib.Core.Option.{Option, none, some}
 use lib.Dec.{leb, eqb}
 use lib.IntN.{ℤ}
 use lib.ListN.{length, getD, take, drop}
-use Rattle.wire.specs.Rules.{allIn, every, unless}
+use Rattle.wire.specs.RuleWords.{allIn, every, unless}
 use Rattle.header.specs.Header.{section1Right}
 use Rattle.samples.specs.Differences.{differences}
 use Rattle.packing.specs.Packing.{packed}
 use Rattle.layout.specs.Layout.{leadsData, streamsData, recordBytes}
-use Rattle.encode.specs.Encoding.{tablesGiven, tablesGivenRight, workRight, Found, workSearched}
+use Rattle.encode.specs.Encoding.{tablesGiven, tablesGivenRight, workRight, SearchFinds, workSearched}
 use Rattle.compose.specs.declared.Written.{Written}
 use Rattle.compose.specs.declared.Head.{Head}
 
@@ -95,10 +95,10 @@ cut [] xs = []
 cut (c ∷ cs) xs = take c xs ∷ cut cs (drop c xs)
 
 -- for each lead the shortest stream for its differences, or that there is none
-pub data FoundAll (s2 : List ℕ) (order : ℕ) : List (List ℤ) → List (Option (List ℕ)) → Type 0 where
-  done : FoundAll s2 order [] []
+pub data SearchFindsAll (s2 : List ℕ) (order : ℕ) : List (List ℤ) → List (Option (List ℕ)) → Type 0 where
+  done : SearchFindsAll s2 order [] []
   lead : {xs : List ℤ} {xss : List (List ℤ)} {found : Option (List ℕ)} {founds : List (Option (List ℕ))} →
-      Found (tablesGiven s2) (differences order xs) found → FoundAll s2 order xss founds → FoundAll s2 order (xs ∷ xss) (found ∷ founds)
+      SearchFinds (tablesGiven s2) (differences order xs) found → SearchFindsAll s2 order xss founds → SearchFindsAll s2 order (xs ∷ xss) (found ∷ founds)
 
 -- a lead's stream, packed into bytes, before the packed streams of the leads after it; none where one of these has none
 abbrev pub withStream : List ℕ → Option (List (List ℕ)) → Option (List (List ℕ))
@@ -146,9 +146,9 @@ recordOut j zero none out = out
 recordOut j (suc n) streams out = out
 
 -- what writing a job answers, and the work space and the output afterwards: refused before streams are looked for, or by what is found
-pub data Wrote (j : Job) (work out : List ℕ) : Written → List ℕ → List ℕ → Type 0 where
-  refused : (n : ℕ) → jobRefusal j (length work) ≡ suc n → Wrote j work out (writtenAs j (suc n) none) work out
+pub data RecordWriting (j : Job) (work out : List ℕ) : Written → List ℕ → List ℕ → Type 0 where
+  refused : (n : ℕ) → jobRefusal j (length work) ≡ suc n → RecordWriting j work out (writtenAs j (suc n) none) work out
   answered : (founds : List (Option (List ℕ))) → jobRefusal j (length work) ≡ 0 →
-      FoundAll (j .section2) (j .order) (cut (j .counts) (j .samples)) founds →
-      Wrote j work out (writtenAs j (recordRefusal j (length out) (packedAll founds)) (packedAll founds)) (workSearched (j .section2) work)
+      SearchFindsAll (j .section2) (j .order) (cut (j .counts) (j .samples)) founds →
+      RecordWriting j work out (writtenAs j (recordRefusal j (length out) (packedAll founds)) (packedAll founds)) (workSearched (j .section2) work)
       (recordOut j (recordRefusal j (length out) (packedAll founds)) (packedAll founds) out)

@@ -6,7 +6,7 @@ ghost use mathlib.Core.List.{List, [], _++_};
 ghost use mathlib.Core.Option.{Option};
 ghost use Prim.Native.Nat.{ℕ, _+_, _*_, _<_, _≤_, min};
 ghost use lib.ListN.{length, take, drop};
-ghost use Rattle.wire.specs.Rules.{allIn};
+ghost use Rattle.wire.specs.RuleWords.{allIn};
 ghost use Rattle.samples.specs.Differences.{differences};
 ghost use Rattle.compiled.specs.InnerForm.{Holding};
 ghost use Rattle.packing.specs.Packing.{packed};
@@ -15,7 +15,7 @@ ghost use Rattle.layout.specs.Layout.{sectionLength, sectionBytes, zeroReserved
 ghost use Rattle.layout.specs.Layout.{section2Size, section2Bytes, recordBytes};
 ghost use Rattle.encode.specs.Encoding.{tablesGiven, tablesGivenRight, workSearched};
 ghost use Rattle.encode.specs.InnerEncode.{bitsFound};
-ghost use Rattle.compose.specs.Writing.{jobOf, total, longest, leadAsked, jobRight, jobRefusal, cut, Wrote};
+ghost use Rattle.compose.specs.Writing.{jobOf, total, longest, leadAsked, jobRight, jobRefusal, cut, RecordWriting};
 ghost use Rattle.compose.specs.InnerSizes.{numberWith, SizedAs, StreamOf, StreamsFor};
 ghost use Rattle.compose.specs.InnerJob.{Sound, Listed, frontSize, count6, sizeWith, refusalFor, answerOf, Streamed};
 
@@ -525,7 +525,7 @@ pub fn write_record(
     work: &mut [u8],
     out: &mut [u8],
 ) -> Written
-    ensures { λ r. ⌜ Wrote
+    ensures { λ r. ⌜ RecordWriting
         (jobOf (now (section1 .entry)) (now (section2 .entry)) head (now (firsts .entry)) (now (counts .entry)) (now (ids .entry))
         (now (xs .entry)))
         (now (work .entry)) (now (out .entry)) r (now (work .exit)) (now (out .exit)) ⌝ }

@@ -15,7 +15,7 @@ use Rattle.tables.specs.Section2.{isDefault, tableCount, tablesIn, section2Righ
 use Rattle.tables.proofs.Laws.{length-tables, section2-right}
 use Rattle.samples.specs.Differences.{differences}
 use Rattle.encode.specs.declared.Coded.{Coded}
-use Rattle.encode.specs.Encoding.{tablesGiven, askedRight, tablesGivenRight, workRight, askedRefusal, codedAs, workSearched, Encoded, refused, answered}
+use Rattle.encode.specs.Encoding.{tablesGiven, askedRight, tablesGivenRight, workRight, askedRefusal, codedAs, workSearched, LeadEncoding, refused, answered}
 use Rattle.encode.specs.InnerEncode.{Written, clearedIf, heldFor}
 
 -- ---- Section 2 as it is given
@@ -125,11 +125,11 @@ cleared-after s2 work held e = rw e (go (length s2))
 
 module _ (s2 : List ℕ) (xs : List ℤ) (order : ℕ) (work out : List ℕ) where
   pub encoded-refused : (n : ℕ) (r : Coded) → n ≡ askedRefusal s2 (length xs) order (length work) → (n ≡ 0 → ⊥)
-      → ((m : ℕ) (found : Option (List ℕ)) → n ≡ suc m → r ≡ codedAs (suc m) found) → Encoded s2 xs order work out r work out
+      → ((m : ℕ) (found : Option (List ℕ)) → n ≡ suc m → r ≡ codedAs (suc m) found) → LeadEncoding s2 xs order work out r work out
   encoded-refused zero r e h answer = absurd (h refl)
   encoded-refused (suc m) r e h answer = rw (answer m none refl) (refused m (sym e))
 
   pub encoded-answered : (r : Coded) (work′ out′ : List ℕ) (held : ℕ) → askedRefusal s2 (length xs) order (length work) ≡ 0
       → Written (tablesGiven s2) (differences order xs) out r out′ → held ≡ heldFor (length s2) → work′ ≡ clearedIf held work
-      → Encoded s2 xs order work out r work′ out′
+      → LeadEncoding s2 xs order work out r work′ out′
   encoded-answered r work′ out′ held e w h cleared = rw (cleared, cleared-after s2 work held h, w .2, w .3) (answered (w .0) e (w .1))

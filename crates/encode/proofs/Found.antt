@@ -19,7 +19,7 @@ use Rattle.shortest.proofs.Bridge.{exact-shortest, exact-long, exact-nothing}
 use Rattle.shortest.proofs.Existence.{shortest-there}
 use Rattle.search.specs.InnerSearch.{cap, Planned}
 use Rattle.encode.specs.declared.Coded.{Coded}
-use Rattle.encode.specs.Encoding.{Found, foundRefusal, codedAs}
+use Rattle.encode.specs.Encoding.{SearchFinds, foundRefusal, codedAs}
 use Rattle.encode.specs.InnerEncode.{bitsFound, Sized, Laid, Written}
 
 -- ---- the bits found
@@ -107,7 +107,7 @@ written-put tables vs out out′ bits n r s refusal z answer put =
     let few = fits-found bits (length out) (s .0) (s .2) e .0 in
     go (s .0) (s .1) (s .2) e few
   where
-    go : (found : Option (List ℕ)) → Found tables vs found → bits ≡ bitsFound found → foundRefusal (length out) found ≡ 0 → bits < 524281
+    go : (found : Option (List ℕ)) → SearchFinds tables vs found → bits ≡ bitsFound found → foundRefusal (length out) found ≡ 0 → bits < 524281
         → Written tables vs out r out′
     go none f b e few = absurd (omega arith)
     go (some bs) f b e few = (some bs, f, rw e (answer bs (omega arith)), rw e (put bs f))

@@ -10,17 +10,17 @@ use Rattle.tables.specs.declared.Structure.{Structure}
 use Rattle.shortest.proofs.Bridge.{unique}
 use Rattle.shortest.proofs.Existence.{shortest-some}
 use Rattle.encode.specs.declared.Coded.{Coded}
-use Rattle.encode.specs.Encoding.{Found, foundRefusal, codedAs, outAs, Encoded, refused, answered}
+use Rattle.encode.specs.Encoding.{SearchFinds, foundRefusal, codedAs, outAs, LeadEncoding, refused, answered}
 
 -- one thing at most is found
-pub found-unique : (tables : List (List Structure)) (vs : List ℤ) (f g : Option (List ℕ)) → Found tables vs f → Found tables vs g → f ≡ g
+pub found-unique : (tables : List (List Structure)) (vs : List ℤ) (f g : Option (List ℕ)) → SearchFinds tables vs f → SearchFinds tables vs g → f ≡ g
 found-unique tables vs none none F G = refl
 found-unique tables vs none (some bs) F G = absurd (shortest-some tables vs bs G F)
 found-unique tables vs (some bs) none F G = absurd (shortest-some tables vs bs F G)
 found-unique tables vs (some bs) (some cs) F G = ap some (unique tables vs bs cs F G)
 
 pub encoded-unique : {s2 : List ℕ} {xs : List ℤ} {order : ℕ} {work out : List ℕ} {a b : Coded} {w v o p : List ℕ}
-    → Encoded s2 xs order work out a w o → Encoded s2 xs order work out b v p → (a ≡ b) × (w ≡ v) × (o ≡ p)
+    → LeadEncoding s2 xs order work out a w o → LeadEncoding s2 xs order work out b v p → (a ≡ b) × (w ≡ v) × (o ≡ p)
 encoded-unique (refused n e) (refused m f) =
     let q : n ≡ m = omega (arith, sym e ∙ f) in
     (ap (λ (k : ℕ). codedAs (suc k) none) q, refl, refl)

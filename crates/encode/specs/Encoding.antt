@@ -8,7 +8,7 @@ use mathlib.Core.Option.{Option, none, some}
 use lib.Dec.{leb, eqb}
 use lib.IntN.{ℤ}
 use lib.ListN.{length, drop, replicate}
-use Rattle.wire.specs.Rules.{unless}
+use Rattle.wire.specs.RuleWords.{unless}
 use Rattle.tables.specs.declared.Structure.{Structure}
 use Rattle.tables.specs.Section2.{tablesIn, section2Right}
 use Rattle.samples.specs.Differences.{differences}
@@ -38,9 +38,9 @@ askedRefusal s2 count order work =
     unless (askedRight count order) 17 (unless (tablesGivenRight s2) 7 (unless (workRight s2 count work) 11 0))
 
 -- what is found for a lead's values: the shortest stream, or none, if no stream reads to them
-abbrev pub Found : List (List Structure) → List ℤ → Option (List ℕ) → Type 0
-Found tables vs none = NoStream tables vs
-Found tables vs (some bs) = Shortest tables vs bs
+abbrev pub SearchFinds : List (List Structure) → List ℤ → Option (List ℕ) → Type 0
+SearchFinds tables vs none = NoStream tables vs
+SearchFinds tables vs (some bs) = Shortest tables vs bs
 
 -- 15 where there is no stream, 16 where the shortest has over 65,535 bytes, 11 where the output has no room for it
 unfoldable pub foundRefusal : ℕ → Option (List ℕ) → ℕ
@@ -67,9 +67,9 @@ unfoldable pub workSearched : List ℕ → List ℕ → List ℕ
 workSearched s2 work = cond (eqb (length s2) 0) work (replicate (length work) 0)
 
 -- what encoding samples answers, and the work space and the output afterwards: refused before a stream is looked for, or by what is found
-pub data Encoded (s2 : List ℕ) (xs : List ℤ) (order : ℕ) (work out : List ℕ) : Coded → List ℕ → List ℕ → Type 0 where
-  refused : (n : ℕ) → askedRefusal s2 (length xs) order (length work) ≡ suc n → Encoded s2 xs order work out (codedAs (suc n) none) work out
+pub data LeadEncoding (s2 : List ℕ) (xs : List ℤ) (order : ℕ) (work out : List ℕ) : Coded → List ℕ → List ℕ → Type 0 where
+  refused : (n : ℕ) → askedRefusal s2 (length xs) order (length work) ≡ suc n → LeadEncoding s2 xs order work out (codedAs (suc n) none) work out
   answered : (found : Option (List ℕ)) → askedRefusal s2 (length xs) order (length work) ≡ 0 →
-      Found (tablesGiven s2) (differences order xs) found →
-      Encoded s2 xs order work out (codedAs (foundRefusal (length out) found) found) (workSearched s2 work)
+      SearchFinds (tablesGiven s2) (differences order xs) found →
+      LeadEncoding s2 xs order work out (codedAs (foundRefusal (length out) found) found) (workSearched s2 work)
       (outAs (foundRefusal (length out) found) found out)

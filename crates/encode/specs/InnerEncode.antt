@@ -17,7 +17,7 @@ use Rattle.shortest.specs.Shortest.{Shortest}
 use Rattle.shortest.specs.InnerRule.{twos, rule}
 use Rattle.search.specs.InnerSearch.{Planned}
 use Rattle.encode.specs.declared.Coded.{Coded}
-use Rattle.encode.specs.Encoding.{Found, foundRefusal, codedAs, outAs}
+use Rattle.encode.specs.Encoding.{SearchFinds, foundRefusal, codedAs, outAs}
 
 -- the code word of a structure's form for a value
 abbrev pub codeOf : Form → ℤ → List ℕ
@@ -55,7 +55,7 @@ bitsFound (some bs) = min 524281 (length bs)
 
 -- r is how many bits the shortest stream has
 abbrev pub Sized : List (List Structure) → List ℤ → ℕ → Type 0
-Sized tables vs r = (found : Option (List ℕ)) × Found tables vs found × (r ≡ bitsFound found)
+Sized tables vs r = (found : Option (List ℕ)) × SearchFinds tables vs found × (r ≡ bitsFound found)
 
 -- the way of a stream of r bits is in the work space; without Section 2 none is needed
 abbrev pub Laid : List (List Structure) → List ℤ → List ℕ → ℕ → Type 0
@@ -64,7 +64,7 @@ Laid tables vs work r = (tables ≡ []) ⊎ Planned tables vs work r
 -- what writing a lead's stream answers, and the output afterwards
 abbrev pub Written : List (List Structure) → List ℤ → List ℕ → Coded → List ℕ → Type 0
 Written tables vs out r out′ =
-    (found : Option (List ℕ)) × Found tables vs found × (r ≡ codedAs (foundRefusal (length out) found) found)
+    (found : Option (List ℕ)) × SearchFinds tables vs found × (r ≡ codedAs (foundRefusal (length out) found) found)
     × (out′ ≡ outAs (foundRefusal (length out) found) found out)
 
 -- the work space: zeros, unless there are no tables

@@ -14,7 +14,7 @@ ghost use Rattle.compiled.specs.InnerForm.{Ready, Holding};
 ghost use Rattle.shortest.specs.Shortest.{Shortest};
 ghost use Rattle.shortest.specs.InnerRule.{plainBytes};
 ghost use Rattle.search.specs.InnerSearch.{FilledBy, Planned};
-ghost use Rattle.encode.specs.Encoding.{tablesGiven, askedRight, tablesGivenRight, askedRefusal, foundRefusal, codedAs, Encoded};
+ghost use Rattle.encode.specs.Encoding.{tablesGiven, askedRight, tablesGivenRight, askedRefusal, foundRefusal, codedAs, LeadEncoding};
 ghost use Rattle.encode.specs.InnerEncode.{codeOf, Going, HeldBy, bitsFound, Sized, Laid, Written, clearedIf, heldFor};
 use compiled::Form;
 use packing::Sink;
@@ -376,7 +376,7 @@ pub fn encode_lead(
     work: &mut [u8],
     out: &mut [u8],
 ) -> Coded
-    ensures { λ r. ⌜ Encoded (now (section2 .entry)) (now (xs .entry)) order (now (work .entry)) (now (out .entry))
+    ensures { λ r. ⌜ LeadEncoding (now (section2 .entry)) (now (xs .entry)) order (now (work .entry)) (now (out .entry))
         r (now (work .exit)) (now (out .exit)) ⌝ }
 {
     let refusal = asked_refusal(section2, xs.len(), order, work.len());

@@ -6,10 +6,10 @@ use mathlib.Core.List.{List}
 use native.Mathlib.Omega.{arith}
 use lib.Dec.{leb, eqb}
 use borrow.Author.Tests.{leb-true, eqb-false, not-true}
-use Rattle.wire.specs.Rules.{allIn}
+use Rattle.wire.specs.RuleWords.{allIn}
 use Rattle.wire.proofs.Laws.{all-at}
-use Rattle.entries.specs.Leads.{leadCount, firstSample, lastSample, sampleCount, leadRight, section3Right}
-use Rattle.entries.specs.Streams.{stepOf, intervalOf, streamsRight}
+use Rattle.entries.specs.Section3.{leadCount, firstSample, lastSample, sampleCount, leadRight, section3Right}
+use Rattle.entries.specs.Sections5And6.{stepOf, intervalOf, streamsRight}
 
 -- what Section 3's rule says
 pub record RightLeads (s : List ℕ) : Type 0 where

@@ -1,3 +1,3 @@
-pub mod Leads
-pub mod Streams
-pub mod Beat
+pub mod Section3
+pub mod Sections5And6
+pub mod Section4

@@ -3,10 +3,10 @@
 ghost use mathlib.Core.Path.{_≡_};
 ghost use Prim.Native.Nat.{_+_, _*_, _<_, _≤_};
 ghost use lib.ListN.{length};
-ghost use Rattle.wire.specs.Rules.{allIn};
-ghost use Rattle.entries.specs.Leads.{firstSample, lastSample, sampleCount, leadRight, section3Right};
-ghost use Rattle.entries.specs.Streams.{byteCountOf, bytesBefore, streamStart, streamOf, streamsRight, section6Right};
-ghost use Rattle.entries.specs.Beat.{qrsType, zoneBegin, qrsFiducial, zoneEnd, samplesInBeat, lastBefore, zoneRight, section4Right};
+ghost use Rattle.wire.specs.RuleWords.{allIn};
+ghost use Rattle.entries.specs.Section3.{firstSample, lastSample, sampleCount, leadRight, section3Right};
+ghost use Rattle.entries.specs.Sections5And6.{byteCountOf, bytesBefore, streamStart, streamOf, streamsRight, section6Right};
+ghost use Rattle.entries.specs.Section4.{qrsType, zoneBegin, qrsFiducial, zoneEnd, samplesInBeat, lastBefore, zoneRight, section4Right};
 
 // The first sample's number of lead k.
 pub fn first_sample(s: &[u8], k: usize) -> usize

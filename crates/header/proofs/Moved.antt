@@ -10,7 +10,7 @@ use borrow.Author.Tests.{leb-true, eqb-true, le-leb}
 use lib.Dec.{leb, eqb}
 use lib.ListN.{length}
 use Rattle.wire.specs.Numbers.{byteAt, numberAt}
-use Rattle.wire.specs.Rules.{allIn, endsBy}
+use Rattle.wire.specs.RuleWords.{allIn, endsBy}
 use Rattle.wire.proofs.Laws.{unlike}
 use Rattle.wire.proofs.Places.{Moved, moved-number, moved-end, each-moved}
 use Rattle.header.specs.declared.Field.{Field}

@@ -5,7 +5,7 @@ use mathlib.Core.Bool.{Bool, not, _&&_, cond}
 use mathlib.Core.List.{List, [], _∷_}
 use lib.Dec.{leb, eqb}
 use lib.ListN.{length}
-use Rattle.wire.specs.Numbers.{byteAt, numberAt}
+use Rattle.wire.specs.Numbers.{byteAt, numberAt, part}
 use Rattle.header.specs.declared.Field.{Field}
 use Rattle.header.specs.declared.Step.{Step}
 use Rattle.header.specs.declared.Step.the-variants.{Found, End}
@@ -55,6 +55,14 @@ occurring zero fs = End
 occurring (suc n) [] = End
 occurring (suc zero) (f ∷ fs) = Found f
 occurring (suc (suc n)) (f ∷ fs) = occurring (suc n) fs
+
+-- a field's bytes, and those that a step shows: none at the end
+abbrev pub fieldBytes : List ℕ → Field → List ℕ
+fieldBytes s f = part s (f .start) (f .end)
+
+abbrev pub shownBytes : List ℕ → Step → List ℕ
+shownBytes s (Found f) = fieldBytes s f
+shownBytes s End = []
 
 -- how many bytes a field has
 abbrev pub sizeOf : Field → ℕ

@@ -4,7 +4,7 @@ use mathlib.Core.Bool.{Bool, true, false, not, _&&_}
 use mathlib.Core.List.{List, [], _∷_}
 use lib.Dec.{leb, eqb}
 use Rattle.wire.specs.Numbers.{byteAt, numberAt}
-use Rattle.wire.specs.Rules.{allIn, endsBy}
+use Rattle.wire.specs.RuleWords.{allIn, endsBy}
 use Rattle.header.specs.declared.Field.{Field}
 use Rattle.header.specs.declared.Step.{Step}
 use Rattle.header.specs.declared.Step.the-variants.{Found, End}

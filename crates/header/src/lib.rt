@@ -4,7 +4,7 @@ ghost use mathlib.Core.Path.{_≡_};
 ghost use mathlib.Core.Bool.{not};
 ghost use lib.Dec.{eqb};
 ghost use Rattle.wire.specs.Numbers.{byteAt};
-ghost use Rattle.wire.specs.Rules.{allIn};
+ghost use Rattle.wire.specs.RuleWords.{allIn};
 ghost use Rattle.header.specs.Fields.{stepAt, fieldsFrom, fieldsEnd, withTag, occurring};
 ghost use Rattle.header.specs.Header.{endsAt, sole, foundKeeps, isIdentifier, anyField, hasSize, section1Right};
 

@@ -14,18 +14,18 @@ use Rattle.wire.proofs.Laws.{kept-first, unlike}
 use Rattle.wire.proofs.Tests.{same, differ}
 use Rattle.pointers.specs.Pointers.{present, sectionOf}
 use Rattle.tables.specs.Section2.{tablesIn}
-use Rattle.entries.specs.Leads.{firstSample}
+use Rattle.entries.specs.Section3.{firstSample}
 use Rattle.entries.proofs.Laws.{leads-right, lead-samples}
-use Rattle.rules.specs.Rules.{leadCountOf, beatSubtracted, beatSampleCount, leadRefusal}
+use Rattle.rules.specs.LeadRules.{leadCountOf, beatSubtracted, beatSampleCount, leadRefusal}
 use Rattle.rules.proofs.Laws.{both-passed, asked, sound}
 use Rattle.samples.specs.Trace.{Trace, rebuilt, fault, afterTrace}
 use Rattle.samples.specs.InnerTrace.{traceOf}
 use Rattle.traces.proofs.Laws.{rebuilt-length}
 use Rattle.beats.specs.Sums.{addBeat}
 use Rattle.beats.proofs.Laws.{added-length}
-use Rattle.leads.specs.Leads.{tablesOf, sampleCountAt, streamTrace, residual, traceAt, roomRight, readRefusal, readTrace}
+use Rattle.leads.specs.LeadTrace.{tablesOf, sampleCountAt, streamTrace, residual, traceAt, roomRight, readRefusal, readTrace}
 use Rattle.leads.specs.InnerLead.{Readable, clearedIf}
-use Rattle.leads.specs.Answers.{outAfter, workAfter, entryAnswer}
+use Rattle.leads.specs.LeadAnswers.{outAfter, workAfter, entryAnswer}
 
 -- ---- a loop that stores one element after another, of any type
 
@@ -75,7 +75,7 @@ module _ (r : List ℕ) (k : ℕ) (here : beatSubtracted r ≡ true) (beat : Lis
   unfolding traceAt
   beat-fault ys h = rw (here, ← read) (go n h)
     where
-      go : (m : ℕ) → (m ≡ 0 → ⊥) → traceOf m ys ≡ afterTrace (λ b. afterTrace (sums b) (residual r k)) (traceOf m beat)
+      go : (m : ℕ) → (m ≡ 0 → ⊥) → traceOf m ys ≡ afterTrace (traceOf m beat) (λ b. afterTrace (residual r k) (sums b))
       go zero g = absurd (g refl)
       go (suc m) g = refl
 
@@ -85,7 +85,7 @@ module _ (r : List ℕ) (k : ℕ) (here : beatSubtracted r ≡ true) (beat : Lis
     unfolding traceAt
     residual-fault ys h = rw (here, ← traced n beat _ z read, ← behind) (go m h)
       where
-        go : (l : ℕ) → (l ≡ 0 → ⊥) → traceOf l ys ≡ afterTrace (sums beat) (traceOf l xs)
+        go : (l : ℕ) → (l ≡ 0 → ⊥) → traceOf l ys ≡ afterTrace (traceOf l xs) (sums beat)
         go zero g = absurd (g refl)
         go (suc l) g = refl
 
@@ -186,7 +186,7 @@ trace-length r k xs h = go (beatSubtracted r) (streamTrace r 5 (beatSampleCount 
     sums bs ys = addBeat (sectionOf r 4) bs (firstSample (sectionOf r 3) k) ys
 
     go : (b : Bool) (beat behind : Trace) → ((ys : List ℤ) → behind ≡ rebuilt ys → length ys ≡ sampleCountAt r k)
-        → rebuilt xs ≡ cond b (afterTrace (λ bs. afterTrace (sums bs) behind) beat) behind → length xs ≡ sampleCountAt r k
+        → rebuilt xs ≡ cond b (afterTrace beat (λ bs. afterTrace behind (sums bs))) behind → length xs ≡ sampleCountAt r k
     go false beat behind g e = g xs (sym e)
     go true (fault n) behind g e = unlike cc
     go true (rebuilt bs) (fault n) g e = unlike cc

@@ -5,8 +5,8 @@ use mathlib.Core.Bool.{Bool, true, false}
 use mathlib.Core.List.{List}
 use lib.IntN.{ℤ, pos}
 use lib.ListN.{length, replicate}
-use Rattle.rules.specs.Rules.{tablesRight, leadCountOf, beatSubtracted, beatSampleCount, beatRight}
-use Rattle.leads.specs.Leads.{sampleCountAt}
+use Rattle.rules.specs.LeadRules.{tablesRight, leadCountOf, beatSubtracted, beatSampleCount, beatRight}
+use Rattle.leads.specs.LeadTrace.{sampleCountAt}
 
 -- lead k can be read with so much work space: its tables and its beat were judged, and it is there
 pub record Readable (r : List ℕ) (k work : ℕ) : Type 0 where

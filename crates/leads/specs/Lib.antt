@@ -1,3 +1,3 @@
-pub mod Leads
-pub mod Answers
+pub mod LeadTrace
+pub mod LeadAnswers
 pub mod InnerLead

@@ -6,13 +6,13 @@ ghost use mathlib.Core.List.{List, _++_};
 ghost use Prim.Native.Nat.{ℕ, _+_, _-_, _<_, _≤_};
 ghost use lib.IntN.{ℤ, pos};
 ghost use lib.ListN.{length, take, drop, replicate};
-ghost use Rattle.rules.specs.Rules.{tablesRight, leadCountOf, beatSubtracted, beatSampleCount, leadRefusal};
+ghost use Rattle.rules.specs.LeadRules.{tablesRight, leadCountOf, beatSubtracted, beatSampleCount, leadRefusal};
 ghost use Rattle.compiled.specs.InnerForm.{Holding};
 ghost use Rattle.samples.specs.Trace.{rebuilt, fault};
 ghost use Rattle.samples.specs.InnerTrace.{traceOf};
-ghost use Rattle.leads.specs.Leads.{tablesOf, sampleCountAt, streamTrace, traceAt, roomRight, readRefusal, readTrace};
+ghost use Rattle.leads.specs.LeadTrace.{tablesOf, sampleCountAt, streamTrace, traceAt, roomRight, readRefusal, readTrace};
 ghost use Rattle.leads.specs.InnerLead.{Readable, clearedIf};
-ghost use Rattle.leads.specs.Answers.{leadOf, leadAnswer, outAfter, workAfter, entryOf, entryAnswer};
+ghost use Rattle.leads.specs.LeadAnswers.{leadOf, leadAnswer, outAfter, workAfter, entryOf, entryAnswer};
 
 // What reading a lead answers beside its samples: 0 or a refusal number, and on a refusal nothing else.
 #[repr(C)]

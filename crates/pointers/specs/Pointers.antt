@@ -14,10 +14,17 @@ section0Length r = numberAt 4 r 10
 abbrev pub dataAt : ℕ
 dataAt = 16
 
--- how many pointers of 10 bytes that length holds behind the header. Never over 64, the most that there may be: a longer Section 0 is
--- then not 16 + 10 times this, and breaks its rule
+-- there are 12 to 64 pointers (01, Numbers that bound the work)
+abbrev pub fewestPointers : ℕ
+fewestPointers = 12
+
+abbrev pub mostPointers : ℕ
+mostPointers = 64
+
+-- how many pointers of 10 bytes that length holds behind the header. Never over the most that there may be: a longer Section 0 is then
+-- not 16 + 10 times this, and breaks rule 3, which also asks for the fewest
 unfoldable pub countOf : List ℕ → ℕ
-countOf r = min 64 ((section0Length r - 16) / 10)
+countOf r = min mostPointers ((section0Length r - 16) / 10)
 
 -- pointer k, counted from 0, in its ten bytes: the ID in two, the length in four, the index of the section's first byte in four
 abbrev pub idOf : List ℕ → ℕ → ℕ

@@ -15,16 +15,15 @@ use lib.ListN.{length, getD, drop, length-drop, drop-of-length-le, List·getD-eq
 use lib.Pow.{pow-pos, pow-mono, shr-lt}
 use lib.Seq.{drop-cons, drop-drop}
 use Rattle.wire.proofs.Laws.{unlike}
-use Rattle.wire.specs.Rules.{every}
+use Rattle.wire.specs.RuleWords.{every}
 use Rattle.bits.specs.Bits.{signed, begins, bitsIn}
 use Rattle.bits.specs.InnerRaised.{lower}
 use Rattle.bits.specs.InnerWindow.{Window}
 use Rattle.bits.proofs.Laws.{length-bitsIn, small-drop, small-bitsIn}
 use Rattle.tables.specs.declared.Structure.{Structure}
-use Rattle.tables.specs.Structures.{prefixOf, remainderOf, structureRight}
+use Rattle.tables.specs.Structures.{prefixOf, remainderOf, structureRight, noStructure}
 use Rattle.tables.specs.Section2.{tableOf, tableRight}
 use Rattle.tables.proofs.Laws.{fine}
-use Rattle.tables.specs.InnerStructures.{noStructure}
 use Rattle.compiled.specs.declared.Form.{Form}
 use Rattle.compiled.specs.InnerForm.{lowest, formOf, Ready, Holding}
 use Rattle.compiled.proofs.Laws.{FineForm, form-fine, held-right}

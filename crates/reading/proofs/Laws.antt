@@ -11,14 +11,13 @@ use lib.Dec.{leb, eqb}
 use lib.IntN.{ℤ}
 use lib.ListN.{length, getD, take, drop, length-append, length-drop, List·getD-eq-default}
 use Rattle.wire.proofs.Laws.{unlike}
-use Rattle.wire.specs.Rules.{every}
+use Rattle.wire.specs.RuleWords.{every}
 use Rattle.bits.specs.Bits.{lowFirst, numberOf, signed, begins}
 use Rattle.bits.proofs.Laws.{length-lowFirst, begins-split}
 use Rattle.tables.specs.declared.Structure.{Structure}
-use Rattle.tables.specs.Structures.{prefixOf, remainderOf, structureRight}
+use Rattle.tables.specs.Structures.{prefixOf, remainderOf, structureRight, noStructure}
 use Rattle.tables.specs.Section2.{tableOf, tableRight}
 use Rattle.tables.proofs.Laws.{fine, RightTable, every-at, right-at}
-use Rattle.tables.specs.InnerStructures.{noStructure}
 use Rattle.compiled.specs.InnerForm.{formOf}
 use Rattle.reading.specs.Reading.{Next, gave, stuck, matching, valueOf, afterMatch, readWithin, readCoded, readNext}
 

@@ -9,14 +9,13 @@ use borrow.Author.Tests.{eq-eqb, eqb-true}
 use lib.Dec.{eqb}
 use lib.ListN.{length, getD, drop, length-append}
 use lib.Seq.{take-at, drop-at}
-use Rattle.wire.specs.Rules.{every}
+use Rattle.wire.specs.RuleWords.{every}
 use Rattle.bits.specs.Bits.{highFirst, signed, begins}
 use Rattle.bits.proofs.Laws.{length-highFirst, length-lowFirst, number-high, begins-append, begins-split}
 use Rattle.tables.specs.declared.Structure.{Structure}
-use Rattle.tables.specs.Structures.{prefixOf, remainderOf, apart}
+use Rattle.tables.specs.Structures.{prefixOf, remainderOf, apart, noStructure}
 use Rattle.tables.specs.Section2.{tableOf, tableRight}
 use Rattle.tables.proofs.Laws.{free-at}
-use Rattle.tables.specs.InnerStructures.{noStructure}
 use Rattle.reading.specs.Reading.{gave, matching, readCoded}
 use Rattle.reading.proofs.Laws.{table-there, read-switch, read-value, value-base, value-rest}
 

@@ -4,9 +4,9 @@ use mathlib.Core.Bool.{Bool, cond}
 use mathlib.Core.List.{List, _++_}
 use lib.Dec.{eqb}
 use lib.ListN.{drop}
-use Rattle.wire.specs.Rules.{unless}
+use Rattle.wire.specs.RuleWords.{unless}
 use Rattle.pointers.specs.Pointers.{countOf, pointersFrom}
-use Rattle.record.specs.Rules.{lengthRight, recordCheckRight, section0Right, allPlacedRight, checksRight, fieldsRight}
+use Rattle.record.specs.RecordRules.{lengthRight, recordCheckRight, section0Right, allPlacedRight, checksRight, fieldsRight}
 
 -- the smallest of 1 to 6 whose rule is broken, and 0 where none is
 unfoldable pub openRefusal : List ℕ → ℕ

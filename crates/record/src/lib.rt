@@ -2,9 +2,9 @@
 // Every function answers for any bytes; `refusal_of` asks the rules in their order, so that later ones meet only sound bytes.
 ghost use mathlib.Core.Path.{_≡_};
 ghost use Prim.Native.Nat.{_<_, _≤_};
-ghost use Rattle.wire.specs.Rules.{allIn};
+ghost use Rattle.wire.specs.RuleWords.{allIn};
 ghost use Rattle.pointers.specs.Pointers.{countOf};
-ghost use Rattle.record.specs.Rules.{lengthRight, recordCheckRight, lettersRight, idRight, ownPointerRight, section0Right, placeRight, headerRepeats, sectionsApart, placedRight, allPlacedRight, holdsCheck, sectionCheckRight, checksRight, fieldsRight};
+ghost use Rattle.record.specs.RecordRules.{lengthRight, recordCheckRight, lettersRight, idRight, ownPointerRight, section0Right, placeRight, headerRepeats, sectionsApart, placedRight, allPlacedRight, holdsCheck, sectionCheckRight, checksRight, fieldsRight};
 ghost use Rattle.record.specs.Opening.{openRefusal, openCount, openNumbers};
 
 // What opening answers: the refusal, or 0 and the number of pointers.

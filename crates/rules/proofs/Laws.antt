@@ -8,11 +8,11 @@ use borrow.Author.Tests.{leb-true, eqb-true, eqb-false}
 use Rattle.wire.proofs.Laws.{kept-first, unlike}
 use Rattle.pointers.specs.Pointers.{present, sectionOf}
 use Rattle.record.specs.Opening.{openRefusal, opens}
-use Rattle.entries.specs.Leads.{section3Right}
-use Rattle.entries.specs.Streams.{streamsRight, section6Right}
-use Rattle.entries.specs.Beat.{section4Right}
-use Rattle.rules.specs.Rules.{tablesRight, leadCountOf, beatSubtracted, beatSampleCount, beatRight}
-use Rattle.rules.specs.Rules.{section6Kept, sections3To6Right, agrees, hasLead, leadRefusal}
+use Rattle.entries.specs.Section3.{section3Right}
+use Rattle.entries.specs.Sections5And6.{streamsRight, section6Right}
+use Rattle.entries.specs.Section4.{section4Right}
+use Rattle.rules.specs.LeadRules.{tablesRight, leadCountOf, beatSubtracted, beatSampleCount, beatRight}
+use Rattle.rules.specs.LeadRules.{section6Kept, sections3To6Right, agrees, hasLead, leadRefusal}
 
 pub record Sound (r : List ℕ) (place : ℕ) : Type 0 where
   pub tables : tablesRight r ≡ true

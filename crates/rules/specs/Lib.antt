@@ -1,2 +1,2 @@
-pub mod Rules
+pub mod LeadRules
 pub mod Rows

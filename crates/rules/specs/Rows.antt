@@ -3,8 +3,8 @@ use Prim.Native.Nat.{ℕ}
 use mathlib.Core.Bool.{Bool, true, cond}
 use mathlib.Core.List.{List}
 use lib.Dec.{eqb}
-use Rattle.record.specs.Rules.{lengthRight, recordCheckRight, section0Right, allPlacedRight, checksRight, fieldsRight}
-use Rattle.rules.specs.Rules.{tablesRight, sections3To6Right, agrees}
+use Rattle.record.specs.RecordRules.{lengthRight, recordCheckRight, section0Right, allPlacedRight, checksRight, fieldsRight}
+use Rattle.rules.specs.LeadRules.{tablesRight, sections3To6Right, agrees}
 
 -- whether the rule of a row from 1 to 9 is kept: 01's row for bytes that keep every row before it; of other bytes the answer says
 -- nothing of a record. Row 0 and rows over 9 answer true: none of them is a rule on a record's bytes alone

@@ -4,9 +4,9 @@ ghost use mathlib.Core.Path.{_≡_};
 ghost use Prim.Native.Nat.{_<_, _≤_};
 ghost use Rattle.wire.specs.Numbers.{numberAt};
 ghost use Rattle.pointers.specs.Pointers.{sectionOf};
-ghost use Rattle.entries.specs.Streams.{intervalOf};
+ghost use Rattle.entries.specs.Sections5And6.{intervalOf};
 ghost use Rattle.rules.specs.Rows.{rowKept};
-ghost use Rattle.rules.specs.Rules.{tablesRight, leadCountOf, beatSubtracted, beatSampleCount, beatRight, section6Kept, sections3To6Right, stepsAgree, agrees, hasLead, leadRefusal};
+ghost use Rattle.rules.specs.LeadRules.{tablesRight, leadCountOf, beatSubtracted, beatSampleCount, beatRight, section6Kept, sections3To6Right, stepsAgree, agrees, hasLead, leadRefusal};
 
 // 7: Section 2 is absent or keeps its rule.
 pub fn tables_right(rec: &[u8]) -> bool

@@ -24,6 +24,6 @@ unfoldable pub afterSample : (ℤ → Trace) → ℤ → Trace
 afterSample goOn x = cond (fits16 x) (behind x (goOn x)) (fault 13)
 
 -- where a trace is rebuilt, what is made of its samples; a fault stays
-abbrev pub afterTrace : (List ℤ → Trace) → Trace → Trace
-afterTrace goOn (rebuilt xs) = goOn xs
-afterTrace goOn (fault number) = fault number
+abbrev pub afterTrace : Trace → (List ℤ → Trace) → Trace
+afterTrace (rebuilt xs) goOn = goOn xs
+afterTrace (fault number) goOn = fault number

@@ -9,11 +9,11 @@ ghost use Rattle.record.specs.Opening.{openRefusal, openCount, openNumbers};
 ghost use Rattle.fields.specs.Lookup.{fieldPlace, walkPlace};
 ghost use Rattle.fields.specs.Identifier.{same};
 ghost use Rattle.rules.specs.Rows.{rowKept};
-ghost use Rattle.leads.specs.Leads.{readTrace};
-ghost use Rattle.leads.specs.Answers.{leadAnswer, outAfter, workAfter, entryAnswer};
-ghost use Rattle.encode.specs.Encoding.{Encoded};
-ghost use Rattle.compose.specs.Writing.{jobOf, Wrote};
-ghost use Rattle.scp.specs.Answers.{partAt, shown, oneIf};
+ghost use Rattle.leads.specs.LeadTrace.{readTrace};
+ghost use Rattle.leads.specs.LeadAnswers.{leadAnswer, outAfter, workAfter, entryAnswer};
+ghost use Rattle.encode.specs.Encoding.{LeadEncoding};
+ghost use Rattle.compose.specs.Writing.{jobOf, RecordWriting};
+ghost use Rattle.scp.specs.Boundary.{partAt, shown, oneIf};
 use compose::Head;
 use compose::Written;
 use encode::Coded;
@@ -179,7 +179,7 @@ pub extern "C" fn scp_encode_lead(
     work: &mut [u8],
     out: &mut [u8],
 ) -> Coded
-    ensures { λ r. ⌜ Encoded (now (section2 .entry)) (now (samples .entry)) order (now (work .entry)) (now (out .entry))
+    ensures { λ r. ⌜ LeadEncoding (now (section2 .entry)) (now (samples .entry)) order (now (work .entry)) (now (out .entry))
         r (now (work .exit)) (now (out .exit)) ⌝ }
 {
     encode::encode_lead(section2, samples, order as usize, work, out)
@@ -203,7 +203,7 @@ pub extern "C" fn scp_write_record(
     work: &mut [u8],
     out: &mut [u8],
 ) -> Written
-    ensures { λ r. ⌜ Wrote
+    ensures { λ r. ⌜ RecordWriting
         (jobOf (now (section1 .entry)) (now (section2 .entry))
         (record { version = version; flags = flags; step = step; interval = interval; order = order })
         (now (firsts .entry)) (now (counts .entry)) (now (ids .entry)) (now (samples .entry)))

@@ -14,7 +14,7 @@ use lib.ListN.{length, take, drop, length-append, take-append-drop}
 use lib.Seq.{length-take-le}
 use lib.Signed.{mag}
 use Rattle.wire.proofs.Laws.{unlike}
-use Rattle.wire.specs.Rules.{every}
+use Rattle.wire.specs.RuleWords.{every}
 use Rattle.bits.specs.Bits.{highFirst, numberOf, signed}
 use Rattle.bits.proofs.Laws.{Small, length-highFirst, length-lowFirst, small-append, small-behind, small-take}
 use Rattle.bits.proofs.Laws.{small-drop, small-highFirst, small-lowFirst, number-small, own-bits}

@@ -11,7 +11,7 @@ use lib.IntN.{ℤ, pos}
 use lib.ListN.{length, getD, replicate, getD-replicate}
 use lib.Pow.{pow-mono}
 use lib.Signed.{mag}
-use Rattle.wire.specs.Rules.{allIn, every}
+use Rattle.wire.specs.RuleWords.{allIn, every}
 use Rattle.wire.proofs.Laws.{all-at}
 use Rattle.bits.specs.Bits.{signed}
 use Rattle.tables.specs.declared.Structure.{Structure}

@@ -7,7 +7,7 @@ use native.Mathlib.Omega.{arith}
 use lib.IntN.{ℤ}
 use lib.ListN.{length}
 use Rattle.wire.specs.Numbers.{bytesOf}
-use Rattle.wire.specs.Rules.{every}
+use Rattle.wire.specs.RuleWords.{every}
 use Rattle.bits.specs.Bits.{bitsIn}
 use Rattle.bits.proofs.Laws.{Small, small-behind}
 use Rattle.tables.specs.declared.Structure.{Structure}

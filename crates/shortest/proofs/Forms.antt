@@ -16,7 +16,7 @@ use lib.ListN.{length}
 use lib.Pow.{pow-pos, pow-mono, pow-add, split, shl-lt}
 use lib.Signed.{mag}
 use Rattle.wire.proofs.Laws.{unlike}
-use Rattle.wire.specs.Rules.{every}
+use Rattle.wire.specs.RuleWords.{every}
 use Rattle.bits.specs.Bits.{numberAfter, numberOf, signed, begins}
 use Rattle.bits.specs.InnerRaised.{lower}
 use Rattle.bits.specs.InnerWindow.{turned}

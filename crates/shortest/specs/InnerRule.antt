@@ -9,9 +9,8 @@ use lib.Signed.{mag}
 use Rattle.wire.specs.Numbers.{bytesOf}
 use Rattle.bits.specs.Bits.{highFirst, bitsIn, signed}
 use Rattle.tables.specs.declared.Structure.{Structure}
-use Rattle.tables.specs.Structures.{prefixOf, remainderOf}
+use Rattle.tables.specs.Structures.{prefixOf, remainderOf, noStructure}
 use Rattle.tables.specs.Section2.{tableOf}
-use Rattle.tables.specs.InnerStructures.{noStructure}
 use Rattle.paths.specs.InnerPaths.{Kind, dead, gives, leads, Codes}
 
 -- the number that the w bits of a whole number in two's complement are without a sign

@@ -11,7 +11,7 @@ use mathlib.Core.Logic.{_⊎_}
 use lib.Dec.{ltb}
 use lib.IntN.{ℤ}
 use lib.ListN.{length}
-use Rattle.wire.specs.Rules.{every}
+use Rattle.wire.specs.RuleWords.{every}
 use Rattle.tables.specs.declared.Structure.{Structure}
 use Rattle.reading.specs.Reading.{gave, readNext}
 use Rattle.paths.specs.Before.{Before}

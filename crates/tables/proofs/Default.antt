@@ -5,28 +5,12 @@ use mathlib.Core.Path.{_≡_, refl, sym, ap, _∙_}
 use mathlib.Core.Bool.{true}
 use mathlib.Core.List.{List, [], _∷_, _++_, map}
 use lib.ListN.{getD, List·getD-map}
-use Rattle.wire.specs.Rules.{every}
+use Rattle.wire.specs.RuleWords.{every}
 use Rattle.bits.specs.Bits.{lowFirst, begins}
-use Rattle.tables.specs.Structures.{prefixOf, modeRight, structureRight, apart, prefixFree}
-use Rattle.tables.specs.Default.{defaultTable, twoValues, valued, ones, codeOf}
+use Rattle.tables.specs.Structures.{prefixOf, modeRight, structureRight, apart, prefixFree, noStructure}
+use Rattle.tables.specs.Default.{defaultTable, twoValues, valued, ones, codeOf, runs}
 use Rattle.tables.specs.Section2.{tableRight}
 use Rattle.tables.proofs.Laws.{table-right, free-at}
-use Rattle.tables.specs.InnerStructures.{noStructure}
-
--- the runs of k ones: then `00`, and then `01`
-abbrev pub twoRuns : ℕ → List (List ℕ)
-twoRuns k = (ones k ++ (0 ∷ (0 ∷ []))) ∷ ((ones k ++ (0 ∷ (1 ∷ []))) ∷ [])
-
--- the runs at all places
-unfoldable pub runs : List (List ℕ)
-runs =
-    (0 ∷ [])
-    ∷ (twoRuns 1
-    ++ (twoRuns 2
-    ++ (twoRuns 3
-    ++ (twoRuns 4
-    ++ (twoRuns 5
-    ++ (twoRuns 6 ++ (twoRuns 7 ++ (twoRuns 8 ++ ((ones 9 ++ (0 ∷ [])) ∷ (ones 10 ∷ []))))))))))
 
 -- the test
 passes : (tableRight 1 defaultTable ≡ true) × (map prefixOf defaultTable ≡ runs)

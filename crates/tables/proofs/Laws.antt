@@ -10,13 +10,12 @@ use lib.ListN.{length, getD}
 use borrow.Author.Tests.{leb-true, ltb-true, eqb-true, eqb-false, eq-eqb, ne-eqb}
 use Rattle.wire.specs.Numbers.{numberAt}
 use Rattle.wire.proofs.Laws.{unlike}
-use Rattle.wire.specs.Rules.{every}
+use Rattle.wire.specs.RuleWords.{every}
 use Rattle.bits.specs.Bits.{lowFirst, begins}
 use Rattle.tables.specs.declared.Structure.{Structure}
-use Rattle.tables.specs.Structures.{structureAt, structuresAt, remainderOf, modeRight}
+use Rattle.tables.specs.Structures.{structureAt, structuresAt, remainderOf, modeRight, noStructure}
 use Rattle.tables.specs.Structures.{structureRight, apart, prefixFree}
 use Rattle.tables.specs.Section2.{isDefault, tableCount, tableAt, afterTable, tablesFrom, afterTables, tableRight, section2Right}
-use Rattle.tables.specs.InnerStructures.{noStructure}
 
 -- the part that a test picks holds where the rule holds
 either : (t a b : Bool) → cond t a b ≡ true → ((t ≡ true) × (a ≡ true)) ⊎ ((t ≡ false) × (b ≡ true))

@@ -8,7 +8,7 @@ use native.Mathlib.Nat.{add-assoc}
 use native.Mathlib.Omega.{arith}
 use lib.Dec.{leb, eqb}
 use Rattle.wire.specs.Numbers.{byteAt, numberAt}
-use Rattle.wire.specs.Rules.{every, endsBy}
+use Rattle.wire.specs.RuleWords.{every, endsBy}
 use Rattle.wire.proofs.Places.{Moved, moved-number, moved-end}
 use Rattle.tables.specs.Structures.{structureAt, structuresAt}
 use Rattle.tables.specs.Section2.{isDefault, tableAt, afterTable, tablesFrom, afterTables, tablesIn, tableRight, section2Right}

@@ -41,3 +41,18 @@ defaultTable =
     ++ (twoValues 5
     ++ (twoValues 6
     ++ (twoValues 7 ++ (twoValues 8 ++ (valued (ones 9 ++ (0 ∷ [])) 8 0 ∷ (valued (ones 10) 16 0 ∷ []))))))))))
+
+-- the rule of the runs again, as the prefixes alone, to hold the table against: a run of k ones, then `00` and then `01`
+abbrev pub twoRuns : ℕ → List (List ℕ)
+twoRuns k = (ones k ++ (0 ∷ (0 ∷ []))) ∷ ((ones k ++ (0 ∷ (1 ∷ []))) ∷ [])
+
+-- the prefixes at all places
+unfoldable pub runs : List (List ℕ)
+runs =
+    (0 ∷ [])
+    ∷ (twoRuns 1
+    ++ (twoRuns 2
+    ++ (twoRuns 3
+    ++ (twoRuns 4
+    ++ (twoRuns 5
+    ++ (twoRuns 6 ++ (twoRuns 7 ++ (twoRuns 8 ++ ((ones 9 ++ (0 ∷ [])) ∷ (ones 10 ∷ []))))))))))

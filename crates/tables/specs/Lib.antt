@@ -1,4 +1,3 @@
 pub mod Structures
 pub mod Default
 pub mod Section2
-pub mod InnerStructures

@@ -6,7 +6,7 @@ use mathlib.Core.List.{List, [], _∷_}
 use lib.Dec.{leb, eqb}
 use lib.ListN.{length, getD}
 use Rattle.wire.specs.Numbers.{numberAt}
-use Rattle.wire.specs.Rules.{every, endsBy}
+use Rattle.wire.specs.RuleWords.{every, endsBy}
 use Rattle.tables.specs.declared.Structure.{Structure}
 use Rattle.tables.specs.Structures.{structuresAt, structureRight, prefixFree}
 use Rattle.tables.specs.Default.{defaultTable}

@@ -5,7 +5,7 @@ use mathlib.Core.Bool.{Bool, true, not, _&&_, cond}
 use mathlib.Core.List.{List, [], _∷_}
 use lib.Dec.{leb, ltb, eqb}
 use Rattle.wire.specs.Numbers.{byteAt, numberAt}
-use Rattle.wire.specs.Rules.{every}
+use Rattle.wire.specs.RuleWords.{every}
 use Rattle.bits.specs.Bits.{lowFirst, begins}
 use Rattle.tables.specs.declared.Structure.{Structure}
 
@@ -18,6 +18,10 @@ structureAt s o = record {
   base = numberAt 2 s (o + 3);
   code = numberAt 4 s (o + 5);
 }
+
+-- past the end of a table: where a structure is asked for by its place and there is none
+abbrev pub noStructure : Structure
+noStructure = record { prefix = 0; whole = 0; mode = 0; base = 0; code = 0 }
 
 -- n structures, one after another
 unfoldable pub structuresAt : List ℕ → ℕ → ℕ → List Structure

@@ -2,11 +2,10 @@
 ghost use mathlib.Core.Path.{_≡_};
 ghost use Prim.Native.Nat.{_+_, _*_, _^_, _<_, _≤_};
 ghost use lib.ListN.{length, getD};
-ghost use Rattle.tables.specs.Structures.{structureAt, structuresAt, modeRight, structureRight, apart, prefixFree};
+ghost use Rattle.tables.specs.Structures.{structureAt, structuresAt, modeRight, structureRight, apart, prefixFree, noStructure};
 ghost use Rattle.tables.specs.Default.{defaultTable};
-ghost use Rattle.wire.specs.Rules.{every, endsBy};
+ghost use Rattle.wire.specs.RuleWords.{every, endsBy};
 ghost use Rattle.tables.specs.Section2.{isDefault, tableCount, tableAt, afterTable, tablesFrom, afterTables, tableRight, section2Right};
-ghost use Rattle.tables.specs.InnerStructures.{noStructure};
 
 // A code structure; the base value without its sign.
 pub struct Structure {

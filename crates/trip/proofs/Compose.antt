@@ -9,7 +9,7 @@ use borrow.Author.Tests.{leb-true, eqb-true, eqb-false, not-true}
 use lib.Dec.{leb, eqb}
 use lib.IntN.{ℤ}
 use lib.ListN.{length, getD, take, drop, length-take, length-drop}
-use Rattle.wire.specs.Rules.{allIn, every}
+use Rattle.wire.specs.RuleWords.{allIn, every}
 use Rattle.wire.proofs.Laws.{all-at, unlike}
 use Rattle.tables.specs.Default.{defaultTable}
 use Rattle.tables.specs.Section2.{isDefault, tableCount, tablesFrom, tablesIn, tableRight, section2Right}
@@ -20,7 +20,7 @@ use Rattle.samples.specs.Trace.{fits16}
 use Rattle.packing.specs.Packing.{packed}
 use Rattle.shortest.specs.Shortest.{Stream}
 use Rattle.encode.specs.Encoding.{tablesGiven, tablesGivenRight}
-use Rattle.compose.specs.Writing.{Job, total, leadAsked, jobRight, cut, FoundAll, done, lead, withStream, packedAll}
+use Rattle.compose.specs.Writing.{Job, total, leadAsked, jobRight, cut, SearchFindsAll, done, lead, withStream, packedAll}
 use Rattle.trip.proofs.Entries.{Asked}
 
 -- ---- rule 17
@@ -147,7 +147,7 @@ streams-cons bs founds streams h = go (packedAll founds) refl h
 
 -- a stream for each lead
 pub found-length : (s2 : List ℕ) (order : ℕ) {xss : List (List ℤ)} {founds : List (Option (List ℕ))} (streams : List (List ℕ))
-    → FoundAll s2 order xss founds → packedAll founds ≡ some streams → length streams ≡ length xss
+    → SearchFindsAll s2 order xss founds → packedAll founds ≡ some streams → length streams ≡ length xss
 unfolding packedAll
 found-length s2 order streams done h = let e : [] ≡ streams = cc in rw (← e)
 found-length s2 order streams (lead {found = none} f all) h = unlike cc
@@ -162,7 +162,7 @@ pub record Lead (s2 : List ℕ) (order : ℕ) (xs : List ℤ) (stream : List ℕ
   pub bytes : stream ≡ packed bits
 
 pub found-at : (s2 : List ℕ) (order : ℕ) {xss : List (List ℤ)} {founds : List (Option (List ℕ))} (streams : List (List ℕ))
-    → FoundAll s2 order xss founds → packedAll founds ≡ some streams → (k : ℕ) → k < length xss
+    → SearchFindsAll s2 order xss founds → packedAll founds ≡ some streams → (k : ℕ) → k < length xss
     → Lead s2 order (getD xss k []) (getD streams k [])
 unfolding packedAll
 found-at s2 order streams done h k l = absurd (omega arith)

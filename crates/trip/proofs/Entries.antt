@@ -8,9 +8,9 @@ use native.Mathlib.Omega.{arith}
 use borrow.Author.Tests.{le-leb, ne-eqb}
 use lib.ListN.{length, getD}
 use Rattle.wire.specs.Numbers.{bytesOf}
-use Rattle.wire.specs.Rules.{endsBy}
+use Rattle.wire.specs.RuleWords.{endsBy}
 use Rattle.wire.proofs.Laws.{all-all}
-use Rattle.entries.specs.Leads.{leadCount, flagsOf, subtracted, firstSample, lastSample, leadId, sampleCount, leadRight, section3Right}
+use Rattle.entries.specs.Section3.{leadCount, flagsOf, subtracted, firstSample, lastSample, leadId, sampleCount, leadRight, section3Right}
 use Rattle.layout.specs.Layout.{entriesOf, leadsData}
 use Rattle.layout.specs.InnerLeads.{entryBytes}
 use Rattle.layout.proofs.Laws.{length-leadsData}

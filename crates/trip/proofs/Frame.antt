@@ -14,7 +14,7 @@ use Rattle.pointers.specs.Pointers.{countOf, idOf, lengthOf, indexOf}
 use Rattle.layout.specs.Layout.{sectionLength, section2Size, checked, sectionBytes, letters, zeroReserved}
 use Rattle.layout.specs.Layout.{pointerBytes, absent, pointersData, section2Bytes, recordSize, recordBytes}
 use Rattle.wire.proofs.Places.{Stands, stands-inner, stands-first, stands-behind, stands-whole, stands-at, stands-written}
-use Rattle.wire.specs.Rules.{every}
+use Rattle.wire.specs.RuleWords.{every}
 use Rattle.layout.proofs.Laws.{length-pointerBytes, length-pointersData, length-sectionBytes, length-section2Bytes, length-recordBytes}
 use Rattle.trip.proofs.Sections.{checked-body, headOf, section-headed, length-head, section-size, headed-holds}
 

@@ -9,13 +9,13 @@ use borrow.Author.Tests.{le-leb, lt-ltb, eq-eqb, ne-eqb}
 use lib.Dec.{eqb}
 use lib.ListN.{length, getD}
 use Rattle.wire.specs.Numbers.{numberAt}
-use Rattle.wire.specs.Rules.{each, allIn}
+use Rattle.wire.specs.RuleWords.{each, allIn}
 use Rattle.wire.proofs.Laws.{all-all}
 use Rattle.header.specs.Header.{section1Right}
 use Rattle.header.proofs.Moved.{section1-moved}
 use Rattle.pointers.specs.Pointers.{idOf, lengthOf, indexOf, endOf}
-use Rattle.record.specs.Rules.{lengthRight, holdsCheck, recordCheckRight, lettersRight, idRight, ownPointerRight}
-use Rattle.record.specs.Rules.{section0Right, placedRight, allPlacedRight, sectionCheckRight, checksRight, fieldsRight}
+use Rattle.record.specs.RecordRules.{lengthRight, holdsCheck, recordCheckRight, lettersRight, idRight, ownPointerRight}
+use Rattle.record.specs.RecordRules.{section0Right, placedRight, allPlacedRight, sectionCheckRight, checksRight, fieldsRight}
 use Rattle.record.specs.Opening.{openRefusal}
 use Rattle.layout.specs.Layout.{sectionLength, section2Size, checked, section2Bytes, letters, recordSize, recordBytes}
 use Rattle.layout.proofs.Laws.{length-pointersData, length-sectionBytes, length-recordBytes}

@@ -7,9 +7,9 @@ use mathlib.Core.List.{List, _++_}
 use native.Mathlib.Omega.{arith}
 use borrow.Author.Tests.{le-leb, lt-ltb, eq-eqb, ne-eqb}
 use lib.ListN.{length}
-use Rattle.wire.specs.Rules.{allIn}
+use Rattle.wire.specs.RuleWords.{allIn}
 use Rattle.pointers.specs.Pointers.{section0Length, idOf, lengthOf, indexOf, present, startOf, endOf, sectionOf}
-use Rattle.record.specs.Rules.{placeRight, headerRepeats, sectionsApart, placedRight, sectionCheckRight}
+use Rattle.record.specs.RecordRules.{placeRight, headerRepeats, sectionsApart, placedRight, sectionCheckRight}
 use Rattle.layout.specs.Layout.{evened, sectionLength, sectionBytes, zeroReserved}
 use Rattle.wire.proofs.Places.{Stands, stands-part, stands-end, stands-inner, stands-written}
 use Rattle.layout.proofs.Laws.{length-sectionBytes}

@@ -15,7 +15,7 @@ use Rattle.wire.proofs.Laws.{length-bytesOf, crc-small}
 use Rattle.wire.proofs.Places.{Moved, Stands, stands-part, stands-inner, stands-first}
 use Rattle.wire.proofs.Places.{stands-behind, stands-whole, stands-at, stands-written}
 use Rattle.packing.proofs.Laws.{zeros-behind}
-use Rattle.record.specs.Rules.{holdsCheck}
+use Rattle.record.specs.RecordRules.{holdsCheck}
 use Rattle.layout.specs.Layout.{evened, sectionLength, checked, sectionBytes}
 use Rattle.layout.proofs.Laws.{length-checked}
 

@@ -8,10 +8,10 @@ use borrow.Author.Tests.{leb-true, le-leb, ne-eqb}
 use lib.Dec.{leb}
 use lib.ListN.{length, getD, length-append}
 use Rattle.wire.specs.Numbers.{bytesOf}
-use Rattle.wire.specs.Rules.{every, endsBy}
+use Rattle.wire.specs.RuleWords.{every, endsBy}
 use Rattle.wire.proofs.Laws.{length-bytesOf}
-use Rattle.entries.specs.Streams.{stepOf, intervalOf, orderOf, bimodalOf, byteCountOf}
-use Rattle.entries.specs.Streams.{bytesBefore, streamStart, streamOf, streamsRight, section6Right}
+use Rattle.entries.specs.Sections5And6.{stepOf, intervalOf, orderOf, bimodalOf, byteCountOf}
+use Rattle.entries.specs.Sections5And6.{bytesBefore, streamStart, streamOf, streamsRight, section6Right}
 use Rattle.layout.specs.Layout.{byteCountsOf, joined, streamsData}
 use Rattle.layout.proofs.Laws.{length-byteCountsOf, length-streamsData}
 use Rattle.compose.specs.Writing.{allShort}

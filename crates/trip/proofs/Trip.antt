@@ -12,26 +12,26 @@ use lib.ListN.{length, getD}
 use Rattle.wire.specs.Numbers.{part}
 use Rattle.header.specs.declared.Step.{Step}
 use Rattle.header.specs.declared.Step.the-variants.{Found, End}
-use Rattle.header.specs.Fields.{fieldsFrom, withTag, occurring}
+use Rattle.header.specs.Fields.{fieldsFrom, withTag, occurring, shownBytes}
 use Rattle.header.specs.Header.{section1Right}
 use Rattle.header.proofs.Laws.{found-within}
 use Rattle.header.proofs.Moved.{movedStep, fields-moved, mark-kept, occurring-there}
 use Rattle.pointers.specs.Pointers.{present, startOf, sectionOf}
 use Rattle.record.specs.Opening.{openRefusal, opens}
-use Rattle.fields.specs.Lookup.{placeFound, fieldPlace}
+use Rattle.fields.specs.Lookup.{placeFound, fieldPlace, refusalOf, partBytes}
 use Rattle.fields.proofs.Laws.{place-opened}
 use Rattle.tables.specs.Section2.{tablesIn, section2Right}
 use Rattle.tables.proofs.Moved.{tables-there, section2-moved}
-use Rattle.entries.specs.Leads.{section3Right}
-use Rattle.entries.specs.Streams.{byteCountOf, streamOf, section6Right}
-use Rattle.rules.specs.Rules.{tablesRight, leadCountOf, beatSubtracted, beatRight, section6Kept, sections3To6Right, stepsAgree, agrees, hasLead, leadRefusal}
+use Rattle.entries.specs.Section3.{section3Right}
+use Rattle.entries.specs.Sections5And6.{byteCountOf, streamOf, section6Right}
+use Rattle.rules.specs.LeadRules.{tablesRight, leadCountOf, beatSubtracted, beatRight, section6Kept, sections3To6Right, stepsAgree, agrees, hasLead, leadRefusal}
 use Rattle.samples.specs.Trace.{rebuilt}
-use Rattle.leads.specs.Leads.{tablesOf, streamTrace, sampleCountAt, residual, traceAt, roomRight, readRefusal, readTrace}
-use Rattle.leads.specs.Answers.{leadAnswer, entryAnswer}
+use Rattle.leads.specs.LeadTrace.{tablesOf, streamTrace, sampleCountAt, residual, traceAt, roomRight, readRefusal, readTrace}
+use Rattle.leads.specs.LeadAnswers.{leadAnswer, entryAnswer}
 use Rattle.encode.specs.Encoding.{tablesGiven, tablesGivenRight}
 use Rattle.layout.specs.Layout.{sectionLength, zeroReserved, leadsData, streamsData, recordBytes}
-use Rattle.compose.specs.Writing.{Job, jobRight, cut, FoundAll, packedAll, allShort, recordOf}
-use Rattle.trip.specs.GivenBack.{JobFits, GivenBack, bytesOfStep, bytesAtPlace, behindHeader, samplesOf}
+use Rattle.compose.specs.Writing.{Job, jobRight, cut, SearchFindsAll, packedAll, allShort, recordOf}
+use Rattle.trip.specs.GivenBack.{JobFits, GivenBack, behindHeader, samplesOf}
 use Rattle.trip.proofs.Traces.{stream-back}
 use Rattle.wire.proofs.Places.{Stands, stands-part, stands-cut, stands-inner}
 use Rattle.trip.proofs.Sections.{headOf, section-headed, length-head, headed-holds}
@@ -52,21 +52,23 @@ module _ (r : List ℕ) (v : ℕ) (d : List ℕ) (opened : openRefusal r ≡ 0) 
       stands-inner (p .there) (rw (← section-headed 1 v zeroReserved d) at inner)
 
   -- a field is shown as it was given
-  field-shown : (tag n : ℕ) → bytesAtPlace r (fieldPlace r tag n) ≡ bytesOfStep d (occurring n (withTag tag (fieldsFrom d 0)))
+  field-shown : (tag n : ℕ) (step : Step) → occurring n (withTag tag (fieldsFrom d 0)) ≡ step
+      → (refusalOf (fieldPlace r tag n) ≡ refusalOf (placeFound 0 step)) × (partBytes r (fieldPlace r tag n) ≡ shownBytes d step)
   unfolding fieldPlace
-  field-shown tag n =
+  field-shown tag n step e =
       let place = placeFound (startOf r 1) (occurring n (withTag tag (fieldsFrom (sectionOf r 1) 16))) in
       let start : startOf r 1 ≡ 142 = omega (arith, p .index) in
       let there = occurring-there (placed-holds p .moved) right n tag in
-      rw (place-opened r place _ opened, there, start) (go (occurring n (withTag tag (fieldsFrom d 0))) refl)
+      rw (place-opened r place _ opened, there, start, e) (go step e)
     where
-      go : (s : Step) → occurring n (withTag tag (fieldsFrom d 0)) ≡ s → bytesAtPlace r (placeFound 142 (movedStep s)) ≡ bytesOfStep d s
-      go End e = refl
+      go : (s : Step) → occurring n (withTag tag (fieldsFrom d 0)) ≡ s
+          → (refusalOf (placeFound 142 (movedStep s)) ≡ refusalOf (placeFound 0 s)) × (partBytes r (placeFound 142 (movedStep s)) ≡ shownBytes d s)
+      go End e = (refl, refl)
       go (Found f) e =
           let w = found-within n tag d 0 f e in
           let a : 142 + (16 + f .start) ≡ 158 + f .start = omega arith in
           let b : 158 + f .start + (16 + f .end - (16 + f .start)) ≡ 158 + f .end = omega (arith, w .order) in
-          rw (a, b) (ap some (stands-cut data-there (f .start) (f .end) (w .order) (w .end)))
+          (refl, rw (a, b) (stands-cut data-there (f .start) (f .end) (w .order) (w .end)))
 
   -- Section 1's data are those given
   section1-there : part (sectionOf r 1) 16 (16 + length d) ≡ d
@@ -80,7 +82,7 @@ module _ (r : List ℕ) (v : ℕ) (d : List ℕ) (opened : openRefusal r ≡ 0) 
 
 module _ (j : Job) (founds : List (Option (List ℕ))) (streams : List (List ℕ)) (bytes : JobFits j) (asked : jobRight j ≡ true)
     (one : section1Right 0 (j .section1) 0 ≡ true) (two : tablesGivenRight (j .section2) ≡ true)
-    (found : FoundAll (j .section2) (j .order) (cut (j .counts) (j .samples)) founds) (made : packedAll founds ≡ some streams)
+    (found : SearchFindsAll (j .section2) (j .order) (cut (j .counts) (j .samples)) founds) (made : packedAll founds ≡ some streams)
     (short : allShort streams ≡ true)
     (small : length
     (recordBytes (j .version) (j .section1) (j .section2) (leadsData (j .flags) (j .firsts) (j .counts) (j .ids))
@@ -285,7 +287,7 @@ module _ (j : Job) (founds : List (Option (List ℕ))) (streams : List (List ℕ
 -- what the writer accepts and writes, the reader gives back
 pub given-back : (j : Job) (founds : List (Option (List ℕ))) (streams : List (List ℕ)) → JobFits j → jobRight j ≡ true
     → section1Right 0 (j .section1) 0 ≡ true → tablesGivenRight (j .section2) ≡ true
-    → FoundAll (j .section2) (j .order) (cut (j .counts) (j .samples)) founds → packedAll founds ≡ some streams → allShort streams ≡ true
+    → SearchFindsAll (j .section2) (j .order) (cut (j .counts) (j .samples)) founds → packedAll founds ≡ some streams → allShort streams ≡ true
     → length (recordOf j streams) ≤ 1048576 → GivenBack j (recordOf j streams)
 unfolding recordOf
 given-back j founds streams bytes asked one two found made short small =

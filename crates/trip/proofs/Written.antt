@@ -14,8 +14,8 @@ use Rattle.wire.proofs.Laws.{kept-first}
 use Rattle.header.specs.Header.{section1Right}
 use Rattle.encode.specs.Encoding.{tablesGivenRight, workRight}
 use Rattle.compose.specs.declared.Written.{Written}
-use Rattle.compose.specs.Writing.{Job, jobRight, jobRefusal, cut, FoundAll, packedAll, allShort}
-use Rattle.compose.specs.Writing.{recordOf, recordRefusal, writtenAs, recordOut, Wrote, refused, answered}
+use Rattle.compose.specs.Writing.{Job, jobRight, jobRefusal, cut, SearchFindsAll, packedAll, allShort}
+use Rattle.compose.specs.Writing.{recordOf, recordRefusal, writtenAs, recordOut, RecordWriting, refused, answered}
 use Rattle.trip.specs.GivenBack.{JobFits, GivenBack}
 use Rattle.trip.proofs.Trip.{given-back}
 
@@ -41,7 +41,7 @@ found-kept j room streams h =
 
 -- the answer's bytes of the output
 module _ (j : Job) (out : List ℕ) (bytes : JobFits j) (founds : List (Option (List ℕ)))
-    (found : FoundAll (j .section2) (j .order) (cut (j .counts) (j .samples)) founds)
+    (found : SearchFindsAll (j .section2) (j .order) (cut (j .counts) (j .samples)) founds)
     (kept : (jobRight j ≡ true) × (section1Right 0 (j .section1) 0 ≡ true) × (tablesGivenRight (j .section2) ≡ true)) where
   -- by the refusal and the streams that it is for
   accepted : (o : Option (List (List ℕ))) → packedAll founds ≡ o → (n : ℕ) → recordRefusal j (length out) o ≡ n
@@ -57,7 +57,7 @@ module _ (j : Job) (out : List ℕ) (bytes : JobFits j) (founds : List (Option (
       (given-back j founds streams bytes (kept .0) (kept .1) (kept .2) found e (w .0) (w .1))
 
 -- what writing answers with no refusal is given back
-pub written-back : (j : Job) (work out : List ℕ) {answer : Written} {work′ out′ : List ℕ} → JobFits j → Wrote j work out answer work′ out′
+pub written-back : (j : Job) (work out : List ℕ) {answer : Written} {work′ out′ : List ℕ} → JobFits j → RecordWriting j work out answer work′ out′
     → answer .refusal ≡ 0 → GivenBack j (take (answer .bytes) out′)
 written-back j work out bytes (refused n e) h = absurd (omega arith)
 written-back j work out bytes (answered founds e found) h =

@@ -6,33 +6,20 @@ use mathlib.Core.Path.{_≡_}
 use mathlib.Core.Bool.{true}
 use mathlib.Core.List.{List, [], map}
 use mathlib.Core.Logic.{_⊎_}
-use mathlib.Core.Option.{Option, none, some}
 use lib.IntN.{ℤ}
 use lib.ListN.{length, getD}
 use Rattle.wire.specs.Numbers.{part}
-use Rattle.wire.specs.Rules.{every}
+use Rattle.wire.specs.RuleWords.{every}
 use Rattle.header.specs.declared.Field.{Field}
 use Rattle.header.specs.declared.Step.{Step}
-use Rattle.header.specs.declared.Step.the-variants.{Found, End}
-use Rattle.header.specs.Fields.{fieldsFrom, withTag, occurring}
+use Rattle.header.specs.Fields.{fieldsFrom, withTag, occurring, shownBytes}
 use Rattle.pointers.specs.Pointers.{dataAt, sectionOf}
 use Rattle.record.specs.Opening.{openRefusal}
-use Rattle.fields.specs.declared.Place.{Place}
-use Rattle.fields.specs.declared.Place.the-variants.{At, Refused}
-use Rattle.fields.specs.Lookup.{fieldPlace}
+use Rattle.fields.specs.Lookup.{placeFound, fieldPlace, refusalOf, partBytes}
 use Rattle.samples.specs.Trace.{rebuilt, fits16}
-use Rattle.leads.specs.Leads.{readTrace}
-use Rattle.leads.specs.Answers.{leadAnswer, entryAnswer}
+use Rattle.leads.specs.LeadTrace.{readTrace}
+use Rattle.leads.specs.LeadAnswers.{leadAnswer, entryAnswer}
 use Rattle.compose.specs.Writing.{Job, cut}
-
--- the bytes of a field in Section 1's data alone, and those that a record shows
-abbrev pub bytesOfStep : List ℕ → Step → Option (List ℕ)
-bytesOfStep s (Found f) = some (part s (f .start) (f .end))
-bytesOfStep s End = none
-
-abbrev pub bytesAtPlace : List ℕ → Place → Option (List ℕ)
-bytesAtPlace r (At start size) = some (part r start (start + size))
-bytesAtPlace r (Refused number) = none
 
 -- a field of Section 1's data, where the section's header stands before them
 abbrev pub behindHeader : Field → Field
@@ -52,10 +39,12 @@ pub record JobFits (j : Job) : Type 0 where
 pub record GivenBack (j : Job) (r : List ℕ) : Type 0 where
   -- the record opens
   pub opened : openRefusal r ≡ 0
-  -- Section 1's data are those given; a walk meets the same fields in the same order, and each is shown as it was given
+  -- Section 1's data are those given; a walk meets the same fields in the same order; and a field is shown, or refused with 10, by what
+  -- stands in the data given
   pub section1 : part (sectionOf r 1) dataAt (dataAt + length (j .section1)) ≡ j .section1
   pub walked : fieldsFrom (sectionOf r 1) dataAt ≡ map behindHeader (fieldsFrom (j .section1) 0)
-  pub fields : (tag n : ℕ) → bytesAtPlace r (fieldPlace r tag n) ≡ bytesOfStep (j .section1) (occurring n (withTag tag (fieldsFrom (j .section1) 0)))
+  pub fields : (tag n : ℕ) (step : Step) → occurring n (withTag tag (fieldsFrom (j .section1) 0)) ≡ step
+      → (refusalOf (fieldPlace r tag n) ≡ refusalOf (placeFound 0 step)) × (partBytes r (fieldPlace r tag n) ≡ shownBytes (j .section1) step)
   -- every lead's samples, with room for them and any work space, and what is answered beside them
   pub samples : (k room work : ℕ) → k < length (j .counts) → getD (j .counts) k 0 ≤ room → readTrace r (k + 1) room work ≡ rebuilt (samplesOf j k)
   pub answers : (k room work : ℕ) → k < length (j .counts) → getD (j .counts) k 0 ≤ room →

@@ -7,19 +7,18 @@ use native.Mathlib.Omega.{arith}
 use lib.Dec.{leb, ltb, eqb}
 use lib.ListN.{length}
 use borrow.Author.Tests.{leb-true, eqb-true}
-use Rattle.wire.specs.Numbers.{numberAt, part}
+use Rattle.wire.specs.Numbers.{numberAt}
 use Rattle.wire.proofs.Laws.{all-at, kept-first, unlike}
-use Rattle.header.specs.declared.Field.{Field}
 use Rattle.header.specs.declared.Step.{Step}
 use Rattle.header.specs.declared.Step.the-variants.{Found, End}
 use Rattle.header.specs.Fields.{stepAt, fieldsFrom}
 use Rattle.header.proofs.Laws.{step-past, step-found, fields-step}
 use Rattle.pointers.specs.Pointers.{section0Length, countOf, indexOf, present, startOf, lengthOf, endOf, sectionOf, dataAt}
-use Rattle.record.specs.Rules.{lengthRight, recordCheckRight, lettersRight, section0Right, placeRight, placedRight, allPlacedRight}
+use Rattle.record.specs.RecordRules.{lengthRight, recordCheckRight, lettersRight, section0Right, placeRight, placedRight, allPlacedRight}
 use Rattle.record.specs.Opening.{openRefusal, opens}
 use Rattle.fields.specs.declared.Place.the-variants.{At, Refused}
 use Rattle.fields.specs.Lookup.{walkPlace, partBytes}
-use Rattle.walker.specs.InnerWalk.{shownBy}
+use Rattle.walker.specs.Walk.{shownBy, shownField}
 
 -- Section 0 of a record that keeps its rule has a pointer to Section 1
 counted : (r : List ℕ) → section0Right r ≡ true → 1 < countOf r
@@ -69,18 +68,14 @@ place-inside r start size h = go (opens r) refl h
         omega arith
     go false o e = unlike cc
 
--- a field as a step shows it: its tag and its bytes
-abbrev shown : List ℕ → Field → ℕ × List ℕ
-shown s f = (f .tag, part s (f .start) (f .end))
-
 -- step after step a walker shows the fields from its place on, and then the end
-shown-from : (n : ℕ) (s : List ℕ) (at : ℕ) → length s - at ≤ n → shownBy n s at ≡ map (shown s) (fieldsFrom s at)
+shown-from : (n : ℕ) (s : List ℕ) (at : ℕ) → length s - at ≤ n → shownBy n s at ≡ map (shownField s) (fieldsFrom s at)
 unfolding shownBy
 shown-from zero s at h = rw (fields-step s at, step-past s at (omega arith))
 shown-from (suc n) s at h = go (λ e. shown-from n s e) (stepAt s at) refl
   where
-    go : ((e : ℕ) → length s - e ≤ n → shownBy n s e ≡ map (shown s) (fieldsFrom s e)) → (p : Step) → stepAt s at ≡ p
-        → shownBy (suc n) s at ≡ map (shown s) (fieldsFrom s at)
+    go : ((e : ℕ) → length s - e ≤ n → shownBy n s e ≡ map (shownField s) (fieldsFrom s e)) → (p : Step) → stepAt s at ≡ p
+        → shownBy (suc n) s at ≡ map (shownField s) (fieldsFrom s at)
     go later End e = rw (fields-step s at, e)
     go later (Found f) e =
         let w = step-found s at f e in
@@ -88,7 +83,7 @@ shown-from (suc n) s at h = go (λ e. shown-from n s e) (stepAt s at) refl
 
 -- from the start of an opened record these are the fields of Section 1, in their order, none left out
 pub walk-shows-all : (n : ℕ) (r : List ℕ) → opens r ≡ true → length (sectionOf r 1) ≤ n
-    → shownBy n (partBytes r (walkPlace r)) dataAt ≡ map (shown (sectionOf r 1)) (fieldsFrom (sectionOf r 1) dataAt)
+    → shownBy n (partBytes r (walkPlace r)) dataAt ≡ map (shownField (sectionOf r 1)) (fieldsFrom (sectionOf r 1) dataAt)
 unfolding walkPlace sectionOf
 walk-shows-all n r o h = rw o (shown-from n (sectionOf r 1) dataAt (omega arith))
 

@@ -1,17 +1,18 @@
 -- What a step of the walk shows of Section 1 (01, Header fields and the patient identifier), and where the next step stands.
-use Prim.Native.Nat.{ℕ}
-use mathlib.Core.Bool.{Bool, true, false}
-use mathlib.Core.List.{List, []}
-use Rattle.wire.specs.Numbers.{part}
+use Prim.Native.Nat.{ℕ, zero, suc}
+use mathlib.Core.Bool.{Bool, true, false, cond}
+use mathlib.Core.List.{List, [], _∷_}
+use Rattle.header.specs.declared.Field.{Field}
 use Rattle.header.specs.declared.Step.{Step}
 use Rattle.header.specs.declared.Step.the-variants.{Found, End}
+use Rattle.header.specs.Fields.{stepAt, shownBytes, fieldBytes}
 
 -- a field is shown, or the end
 abbrev pub shownMore : Step → Bool
 shownMore (Found f) = true
 shownMore End = false
 
--- its tag, where its bytes start, and these bytes; at the end 0, 0 and none
+-- its tag, and where its bytes start; at the end 0 and 0
 abbrev pub shownTag : Step → ℕ
 shownTag (Found f) = f .tag
 shownTag End = 0
@@ -20,11 +21,19 @@ abbrev pub shownStart : Step → ℕ
 shownStart (Found f) = f .start
 shownStart End = 0
 
-abbrev pub shownBytes : List ℕ → Step → List ℕ
-shownBytes s (Found f) = part s (f .start) (f .end)
-shownBytes s End = []
-
 -- the next step is at the field's end; the end is not left
 abbrev pub placeAfter : ℕ → Step → ℕ
 placeAfter at (Found f) = f .end
 placeAfter at End = at
+
+-- what a walker over s at a place shows in at most so many steps, each a tag and its bytes, up to the end
+unfoldable pub shownBy : ℕ → List ℕ → ℕ → List (ℕ × List ℕ)
+shownBy zero s at = []
+shownBy (suc steps) s at =
+    cond (shownMore (stepAt s at))
+    ((shownTag (stepAt s at), shownBytes s (stepAt s at)) ∷ shownBy steps s (placeAfter at (stepAt s at)))
+    []
+
+-- a field as a step shows it: its tag and its bytes
+abbrev pub shownField : List ℕ → Field → ℕ × List ℕ
+shownField s f = (f .tag, fieldBytes s f)

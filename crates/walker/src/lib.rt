@@ -3,10 +3,10 @@
 // behind it.
 ghost use mathlib.Core.Path.{_≡_};
 ghost use Prim.Native.Nat.{_+_};
-ghost use Rattle.header.specs.Fields.{stepAt};
+ghost use Rattle.header.specs.Fields.{stepAt, shownBytes};
 ghost use Rattle.pointers.specs.Pointers.{dataAt};
 ghost use Rattle.fields.specs.Lookup.{walkPlace, refusalOf, partStart, partBytes};
-ghost use Rattle.walker.specs.Walk.{shownMore, shownTag, shownStart, shownBytes, placeAfter};
+ghost use Rattle.walker.specs.Walk.{shownMore, shownTag, shownStart, placeAfter};
 ghost use Rattle.walker.specs.InnerWalk.{factsOf};
 use fields::Place;
 use header::Step;

@@ -14,7 +14,7 @@ use lib.ListN.{length, getD, take, drop, length-append, drop-of-length-le, List�
 use lib.Seq.{drop-cons, getD-append-seam, append-snoc, take-at, drop-at, drop-drop}
 use Rattle.wire.specs.Numbers.{numberAt, bytesOf}
 use Rattle.wire.specs.Check.{crcBit, crcBits, crcByte, crcFrom, crcOf}
-use Rattle.wire.specs.Rules.{each, allIn, unless}
+use Rattle.wire.specs.RuleWords.{each, allIn, unless}
 
 -- ---- numbers
 

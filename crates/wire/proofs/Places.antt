@@ -10,7 +10,7 @@ use lib.Dec.{leb}
 use lib.ListN.{length, drop, length-append, length-drop, List·getD-append}
 use lib.Seq.{getD-append-add, drop-append-add, drop-append-le, take-append-le, drop-at, take-at}
 use Rattle.wire.specs.Numbers.{byteAt, numberAt, bytesOf, part}
-use Rattle.wire.specs.Rules.{each, endsBy}
+use Rattle.wire.specs.RuleWords.{each, endsBy}
 use Rattle.wire.proofs.Laws.{written-read}
 
 -- a part stands in r from a place on

@@ -1,3 +1,3 @@
 pub mod Numbers
 pub mod Check
-pub mod Rules
+pub mod RuleWords

@@ -8,7 +8,7 @@ use lib.ListN.{length, getD}
 use mir.Syntax.{w16}
 use mir.ValLaws.{toZ-ofZ}
 use Rattle.bits.specs.InnerRaised.{lower}
-use Rattle.entries.specs.Beat.{fiducialOf, qrsType, qrsFiducial, zoneEnd}
+use Rattle.entries.specs.Section4.{fiducialOf, qrsType, qrsFiducial, zoneEnd}
 use Rattle.beats.specs.Sums.{beatValueAt}
 use Rattle.beats.proofs.Laws.{RightZone, beat-right, zone-here, place-end, place-before, place-in, beat-at}
 use Rattle.beats.proofs.beat_by.Statement.{statement}

@@ -3,7 +3,7 @@ use Prim.Native.Nat.{_+_}
 use mathlib.Core.Path.{_≡_, refl, sym, _∙_}
 use mathlib.Core.List.{[], _∷_}
 use native.Mathlib.Omega.{arith}
-use Rattle.wire.specs.Rules.{every}
+use Rattle.wire.specs.RuleWords.{every}
 use Rattle.tables.specs.Default.{defaultTable}
 use Rattle.tables.specs.Section2.{tablesFrom, tablesIn}
 use Rattle.tables.proofs.Laws.{RightTables, length-tables, own-tables}

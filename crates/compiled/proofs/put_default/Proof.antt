@@ -6,13 +6,12 @@ use native.Mathlib.Omega.{arith}
 use lib.Dec.{ltb}
 use lib.ListN.{length}
 use borrow.Author.Tests.{ltb-true}
-use Rattle.wire.specs.Rules.{every}
+use Rattle.wire.specs.RuleWords.{every}
 use Rattle.tables.specs.declared.Structure.{Structure}
-use Rattle.tables.specs.Structures.{structureRight}
+use Rattle.tables.specs.Structures.{structureRight, noStructure}
 use Rattle.tables.specs.Default.{defaultTable, twoValues, valued}
 use Rattle.tables.proofs.Laws.{fine, table-right, every-at}
 use Rattle.tables.proofs.Default.{default-right}
-use Rattle.tables.specs.InnerStructures.{noStructure}
 use Rattle.compiled.specs.InnerForm.{formOf}
 use Rattle.compiled.proofs.Laws.{form-fine, form-room}
 use Rattle.compiled.proofs.Putting.{Upto, upto-start, upto-turn, upto-end}

@@ -3,7 +3,7 @@ use Prim.Native.Nat.{_-_, _≤_}
 use mathlib.Core.Path.{_≡_, refl}
 use native.Mathlib.Omega.{arith}
 use lib.ListN.{length}
-use Rattle.wire.specs.Rules.{allIn}
+use Rattle.wire.specs.RuleWords.{allIn}
 use Rattle.wire.proofs.Tests.{turn-kept, turn-broken, turns-done}
 use Rattle.compose.specs.Writing.{leadAsked}
 use Rattle.compose.proofs.leads_asked.Statement.{statement}

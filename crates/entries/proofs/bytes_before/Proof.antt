@@ -4,7 +4,7 @@ use mathlib.Core.Path.{_≡_, ap, _∙_}
 use native.Mathlib.Numerals.{add-one}
 use native.Mathlib.Omega.{arith}
 use borrow.Author.Needs.{needs}
-use Rattle.entries.specs.Streams.{bytesBefore}
+use Rattle.entries.specs.Sections5And6.{bytesBefore}
 use Rattle.entries.proofs.bytes_before.Statement.{statement}
 use Rattle.entries.proofs.bytes_before.Tie as tie
 

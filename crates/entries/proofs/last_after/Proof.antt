@@ -2,7 +2,7 @@
 use mathlib.Core.Path.{refl}
 use native.Mathlib.Numerals.{add-one}
 use borrow.Author.Needs.{needs}
-use Rattle.entries.specs.Beat.{lastBefore}
+use Rattle.entries.specs.Section4.{lastBefore}
 use Rattle.wire.proofs.Tests.{same, differ}
 use Rattle.entries.proofs.last_after.Statement.{statement}
 use Rattle.entries.proofs.last_after.Tie as tie

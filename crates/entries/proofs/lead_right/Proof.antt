@@ -3,7 +3,7 @@ use mathlib.Core.Bool.{and-false}
 use native.Mathlib.Omega.{arith}
 use borrow.Author.Needs.{needs}
 use borrow.Author.Tests.{le-leb, lt-leb}
-use Rattle.entries.specs.Leads.{firstSample, lastSample, sampleCount, leadRight}
+use Rattle.entries.specs.Section3.{firstSample, lastSample, sampleCount, leadRight}
 use Rattle.entries.proofs.lead_right.Statement.{statement}
 use Rattle.entries.proofs.lead_right.Tie as tie
 

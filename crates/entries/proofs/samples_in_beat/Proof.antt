@@ -4,7 +4,7 @@ use mathlib.Core.Path.{refl}
 use native.Mathlib.Nat.{div-le-self}
 use native.Mathlib.Omega.{arith}
 use borrow.Author.Needs.{needs}
-use Rattle.entries.specs.Beat.{samplesInBeat}
+use Rattle.entries.specs.Section4.{samplesInBeat}
 use Rattle.entries.proofs.samples_in_beat.Statement.{statement}
 use Rattle.entries.proofs.samples_in_beat.Tie as tie
 

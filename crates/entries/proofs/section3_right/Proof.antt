@@ -5,8 +5,8 @@ use mathlib.Core.Bool.{and-false}
 use native.Mathlib.Omega.{arith}
 use borrow.Author.Needs.{needs}
 use borrow.Author.Tests.{le-leb, lt-leb}
-use Rattle.wire.specs.Rules.{allIn, endsBy}
-use Rattle.entries.specs.Leads.{leadCount, leadRight, section3Right}
+use Rattle.wire.specs.RuleWords.{allIn, endsBy}
+use Rattle.entries.specs.Section3.{leadCount, leadRight, section3Right}
 use Rattle.wire.proofs.Tests.{kept, broken}
 use Rattle.entries.proofs.section3_right.Statement.{statement}
 use Rattle.entries.proofs.section3_right.Tie as tie

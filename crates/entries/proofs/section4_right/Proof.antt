@@ -6,8 +6,8 @@ use native.Mathlib.Omega.{arith}
 use lib.ListN.{length}
 use borrow.Author.Needs.{needs}
 use borrow.Author.Tests.{le-leb, lt-leb}
-use Rattle.wire.specs.Rules.{allIn}
-use Rattle.entries.specs.Beat.{fiducialOf, qrsCount, zoneRight, section4Right}
+use Rattle.wire.specs.RuleWords.{allIn}
+use Rattle.entries.specs.Section4.{fiducialOf, qrsCount, zoneRight, section4Right}
 use Rattle.entries.proofs.section4_right.Statement.{statement}
 use Rattle.entries.proofs.section4_right.Tie as tie
 

@@ -2,7 +2,7 @@
 use native.Mathlib.Omega.{arith}
 use borrow.Author.Needs.{needs}
 use borrow.Author.Tests.{le-leb, lt-leb}
-use Rattle.entries.specs.Streams.{bimodalOf, section6Right}
+use Rattle.entries.specs.Sections5And6.{bimodalOf, section6Right}
 use Rattle.entries.proofs.section6_right.Statement.{statement}
 use Rattle.entries.proofs.section6_right.Tie as tie
 

@@ -5,7 +5,7 @@ use native.Mathlib.Omega.{arith}
 use lib.ListN.{length, drop, length-take}
 use borrow.Author.Needs.{needs}
 use Rattle.wire.specs.Numbers.{part}
-use Rattle.entries.specs.Streams.{streamOf}
+use Rattle.entries.specs.Sections5And6.{streamOf}
 use Rattle.entries.proofs.stream_of.Statement.{statement}
 use Rattle.entries.proofs.stream_of.Tie as tie
 

@@ -1,7 +1,7 @@
 -- The start is that of the streams of all leads, and the bytes of those before are added to it.
 use native.Mathlib.Omega.{arith}
 use borrow.Author.Needs.{needs}
-use Rattle.entries.specs.Streams.{streamStart}
+use Rattle.entries.specs.Sections5And6.{streamStart}
 use Rattle.entries.proofs.stream_start.Statement.{statement}
 use Rattle.entries.proofs.stream_start.Tie as tie
 

@@ -4,8 +4,8 @@ use mathlib.Core.Bool.{and-false}
 use native.Mathlib.Omega.{arith}
 use borrow.Author.Needs.{needs}
 use borrow.Author.Tests.{le-leb, lt-leb}
-use Rattle.wire.specs.Rules.{endsBy}
-use Rattle.entries.specs.Streams.{orderOf, streamsRight}
+use Rattle.wire.specs.RuleWords.{endsBy}
+use Rattle.entries.specs.Sections5And6.{orderOf, streamsRight}
 use Rattle.wire.proofs.Tests.{same, differ}
 use Rattle.entries.proofs.streams_right.Statement.{statement}
 use Rattle.entries.proofs.streams_right.Tie as tie

@@ -6,7 +6,7 @@ use native.Mathlib.Omega.{arith}
 use lib.Dec.{eqb}
 use borrow.Author.Needs.{needs}
 use borrow.Author.Tests.{le-leb, lt-leb, lt-ltb, le-ltb}
-use Rattle.entries.specs.Beat.{fiducialOf, zoneBegin, qrsFiducial, zoneEnd, lastBefore, zoneRight}
+use Rattle.entries.specs.Section4.{fiducialOf, zoneBegin, qrsFiducial, zoneEnd, lastBefore, zoneRight}
 use Rattle.wire.proofs.Tests.{same, differ}
 use Rattle.entries.proofs.zone_right.Statement.{statement}
 use Rattle.entries.proofs.zone_right.Tie as tie

@@ -2,8 +2,8 @@
 use Prim.Native.Nat.{_-_}
 use mathlib.Core.Path.{_≡_, refl}
 use borrow.Author.Needs.{needs}
-use Rattle.wire.specs.Rules.{allIn}
-use Rattle.entries.specs.Beat.{lastBefore, zoneRight}
+use Rattle.wire.specs.RuleWords.{allIn}
+use Rattle.entries.specs.Section4.{lastBefore, zoneRight}
 use Rattle.wire.proofs.Tests.{turn-kept, turn-broken, turns-done}
 use Rattle.entries.proofs.zones_right.Statement.{statement}
 use Rattle.entries.proofs.zones_right.Tie as tie

@@ -7,7 +7,7 @@ use lib.Dec.{leb}
 use lib.ListN.{length, List·getD-eq-default}
 use borrow.Author.Needs.{needs}
 use borrow.Author.Tests.{le-leb, lt-leb, eq-eqb, ne-eqb}
-use Rattle.wire.specs.Rules.{endsBy}
+use Rattle.wire.specs.RuleWords.{endsBy}
 use Rattle.header.specs.Header.{endsAt}
 use Rattle.header.proofs.ends_at.Statement.{statement}
 use Rattle.header.proofs.ends_at.Tie as tie

@@ -8,7 +8,7 @@ use lib.Dec.{eqb}
 use borrow.Author.Needs.{needs}
 use borrow.Author.Tests.{eq-eqb, ne-eqb}
 use Rattle.wire.specs.Numbers.{byteAt}
-use Rattle.wire.specs.Rules.{allIn}
+use Rattle.wire.specs.RuleWords.{allIn}
 use Rattle.wire.proofs.Laws.{all-end, all-step, all-miss}
 use Rattle.header.proofs.no_nul.Statement.{statement}
 use Rattle.header.proofs.no_nul.Tie as tie

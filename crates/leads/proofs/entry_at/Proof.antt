@@ -3,8 +3,8 @@ use Prim.Native.Nat.{ℕ}
 use mathlib.Core.Path.{ap, _∙_}
 use mathlib.Core.List.{List}
 use borrow.Author.Needs.{needs}
-use Rattle.entries.specs.Leads.{flagsOf, firstSample, lastSample, leadId}
-use Rattle.entries.specs.Streams.{stepOf, intervalOf, orderOf, byteCountOf}
+use Rattle.entries.specs.Section3.{flagsOf, firstSample, lastSample, leadId}
+use Rattle.entries.specs.Sections5And6.{stepOf, intervalOf, orderOf, byteCountOf}
 use Rattle.leads.proofs.entry_at.Statement.{statement}
 use Rattle.leads.proofs.entry_at.Tie as tie
 

@@ -9,9 +9,9 @@ use Rattle.wire.proofs.Tests.{kept, broken}
 use Rattle.pointers.specs.Pointers.{present, sectionOf}
 use Rattle.tables.specs.Section2.{section2Right}
 use Rattle.compiled.proofs.Laws.{ready-held}
-use Rattle.rules.specs.Rules.{tablesRight}
+use Rattle.rules.specs.LeadRules.{tablesRight}
 use Rattle.rules.proofs.Laws.{asked}
-use Rattle.leads.specs.Leads.{tablesOf}
+use Rattle.leads.specs.LeadTrace.{tablesOf}
 use Rattle.leads.proofs.Laws.{tables-are}
 use Rattle.leads.proofs.hold_tables.Statement.{statement}
 use Rattle.leads.proofs.hold_tables.Tie as tie

@@ -4,9 +4,9 @@ use mathlib.Core.Path.{_≡_, ap, _∙_}
 use mathlib.Core.List.{List}
 use native.Mathlib.Omega.{arith}
 use borrow.Author.Needs.{needs}
-use Rattle.entries.specs.Leads.{flagsOf, firstSample, leadId, sampleCount}
-use Rattle.entries.specs.Streams.{stepOf, intervalOf}
-use Rattle.leads.specs.Leads.{sampleCountAt}
+use Rattle.entries.specs.Section3.{flagsOf, firstSample, leadId, sampleCount}
+use Rattle.entries.specs.Sections5And6.{stepOf, intervalOf}
+use Rattle.leads.specs.LeadTrace.{sampleCountAt}
 use Rattle.leads.proofs.lead_at.Statement.{statement}
 use Rattle.leads.proofs.lead_at.Tie as tie
 

@@ -5,7 +5,7 @@ use native.Mathlib.Omega.{arith}
 use borrow.Author.Needs.{needs}
 use Rattle.entries.proofs.Laws.{leads-right}
 use Rattle.rules.proofs.Laws.{Sound, sound}
-use Rattle.leads.specs.Answers.{entryOf}
+use Rattle.leads.specs.LeadAnswers.{entryOf}
 use Rattle.leads.proofs.Laws.{entry-refused}
 use Rattle.leads.proofs.lead_entry.Statement.{statement}
 use Rattle.leads.proofs.lead_entry.Tie as tie

@@ -10,9 +10,9 @@ use lib.Seq.{length-take-le}
 use borrow.Author.Needs.{needs}
 use Rattle.wire.proofs.Tests.{kept, broken}
 use Rattle.entries.proofs.Laws.{interval-some}
-use Rattle.rules.specs.Rules.{beatSubtracted, beatSampleCount}
+use Rattle.rules.specs.LeadRules.{beatSubtracted, beatSampleCount}
 use Rattle.rules.proofs.Laws.{sound-beat}
-use Rattle.leads.specs.Leads.{streamTrace, residual}
+use Rattle.leads.specs.LeadTrace.{streamTrace, residual}
 use Rattle.leads.specs.InnerLead.{Readable}
 use Rattle.leads.proofs.Laws.{zeros, without-beat}
 use Rattle.leads.proofs.lead_into.Statement.{statement}

@@ -3,7 +3,7 @@ use Prim.Native.Nat.{ℕ}
 use mathlib.Core.Path.{sym, ap, _∙_}
 use borrow.Author.Needs.{needs}
 use Rattle.samples.specs.InnerTrace.{traceOf}
-use Rattle.leads.specs.Leads.{traceAt}
+use Rattle.leads.specs.LeadTrace.{traceAt}
 use Rattle.leads.proofs.Laws.{out-fault, out-rebuilt}
 use Rattle.leads.proofs.lead_out.Statement.{statement}
 use Rattle.leads.proofs.lead_out.Tie as tie

@@ -6,8 +6,8 @@ use native.Mathlib.Omega.{arith}
 use lib.ListN.{length, take}
 use lib.Seq.{length-take-le}
 use borrow.Author.Needs.{needs}
-use Rattle.entries.specs.Leads.{sampleCount}
-use Rattle.leads.specs.Leads.{sampleCountAt}
+use Rattle.entries.specs.Section3.{sampleCount}
+use Rattle.leads.specs.LeadTrace.{sampleCountAt}
 use Rattle.leads.proofs.read_into.Statement.{statement}
 use Rattle.leads.proofs.read_into.Tie as tie
 

@@ -4,11 +4,11 @@ use mathlib.Core.Path.{_≡_, sym, ap, _∙_}
 use native.Mathlib.Omega.{arith}
 use lib.ListN.{length}
 use borrow.Author.Needs.{needs}
-use Rattle.rules.specs.Rules.{beatSubtracted}
+use Rattle.rules.specs.LeadRules.{beatSubtracted}
 use Rattle.samples.specs.Trace.{Trace}
-use Rattle.leads.specs.Leads.{sampleCountAt, readTrace, traceAt}
+use Rattle.leads.specs.LeadTrace.{sampleCountAt, readTrace, traceAt}
 use Rattle.leads.specs.InnerLead.{Readable, clearedIf}
-use Rattle.leads.specs.Answers.{leadOf, outAfter, workAfter}
+use Rattle.leads.specs.LeadAnswers.{leadOf, outAfter, workAfter}
 use Rattle.leads.proofs.Laws.{read-refused, read-on, work-refused, work-read, readable, trace-length, trace-fault, trace-rebuilt}
 use Rattle.leads.proofs.read_lead.Statement.{statement}
 use Rattle.leads.proofs.read_lead.Tie as tie

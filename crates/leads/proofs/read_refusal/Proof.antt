@@ -2,7 +2,7 @@
 use mathlib.Core.Path.{refl, _∙_, sym}
 use borrow.Author.Needs.{needs}
 use Rattle.wire.proofs.Tests.{kept, broken, same, differ}
-use Rattle.leads.specs.Leads.{readRefusal}
+use Rattle.leads.specs.LeadTrace.{readRefusal}
 use Rattle.leads.proofs.read_refusal.Statement.{statement}
 use Rattle.leads.proofs.read_refusal.Tie as tie
 

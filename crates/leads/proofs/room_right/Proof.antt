@@ -8,11 +8,11 @@ use lib.Dec.{leb}
 use borrow.Author.Needs.{needs}
 use borrow.Author.Tests.{le-leb, lt-leb}
 use Rattle.wire.proofs.Tests.{kept, broken}
-use Rattle.entries.specs.Leads.{sampleCount}
+use Rattle.entries.specs.Section3.{sampleCount}
 use Rattle.entries.proofs.Laws.{leads-right, interval-some}
-use Rattle.rules.specs.Rules.{beatSampleCount}
+use Rattle.rules.specs.LeadRules.{beatSampleCount}
 use Rattle.rules.proofs.Laws.{Sound, sound, sound-beat}
-use Rattle.leads.specs.Leads.{sampleCountAt, roomRight}
+use Rattle.leads.specs.LeadTrace.{sampleCountAt, roomRight}
 use Rattle.leads.proofs.room_right.Statement.{statement}
 use Rattle.leads.proofs.room_right.Tie as tie
 

@@ -5,9 +5,9 @@ use mathlib.Core.List.{List}
 use lib.ListN.{length}
 use borrow.Author.Needs.{needs}
 use Rattle.bits.specs.Bits.{bitsIn}
-use Rattle.entries.specs.Streams.{orderOf, streamOf}
+use Rattle.entries.specs.Sections5And6.{orderOf, streamOf}
 use Rattle.traces.specs.Rebuilding.{rebuild}
-use Rattle.leads.specs.Leads.{tablesOf, streamTrace}
+use Rattle.leads.specs.LeadTrace.{tablesOf, streamTrace}
 use Rattle.leads.proofs.stream_into.Statement.{statement}
 use Rattle.leads.proofs.stream_into.Tie as tie
 

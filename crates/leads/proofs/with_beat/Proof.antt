@@ -4,11 +4,11 @@ use mathlib.Core.Path.{refl, ap, ap₂, _∙_}
 use mathlib.Core.List.{List}
 use native.Mathlib.Omega.{arith}
 use borrow.Author.Needs.{needs}
-use Rattle.entries.specs.Leads.{firstSample}
-use Rattle.entries.specs.Beat.{section4Right}
+use Rattle.entries.specs.Section3.{firstSample}
+use Rattle.entries.specs.Section4.{section4Right}
 use Rattle.rules.proofs.Laws.{sound-beat}
 use Rattle.beats.specs.Sums.{addBeat}
-use Rattle.leads.specs.Leads.{streamTrace, residual}
+use Rattle.leads.specs.LeadTrace.{streamTrace, residual}
 use Rattle.leads.proofs.Laws.{beat-fault, residual-fault, beat-added}
 use Rattle.leads.proofs.with_beat.Statement.{statement}
 use Rattle.leads.proofs.with_beat.Tie as tie

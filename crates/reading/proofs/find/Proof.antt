@@ -7,7 +7,7 @@ use native.Mathlib.Omega.{arith}
 use lib.ListN.{length, getD}
 use borrow.Author.Needs.{needs}
 use Rattle.tables.specs.declared.Structure.{Structure}
-use Rattle.tables.specs.InnerStructures.{noStructure}
+use Rattle.tables.specs.Structures.{noStructure}
 use Rattle.compiled.proofs.Laws.{held-count, held-form, held-fine, held-apart}
 use Rattle.reading.specs.InnerCursor.{formed}
 use Rattle.reading.proofs.Trip.{matching-begun}

@@ -8,8 +8,7 @@ use native.Mathlib.Omega.{arith}
 use lib.ListN.{length, getD, drop}
 use Rattle.bits.specs.Bits.{begins}
 use Rattle.tables.specs.declared.Structure.{Structure}
-use Rattle.tables.specs.Structures.{prefixOf}
-use Rattle.tables.specs.InnerStructures.{noStructure}
+use Rattle.tables.specs.Structures.{prefixOf, noStructure}
 use Rattle.compiled.specs.InnerForm.{formOf, Ready}
 use Rattle.compiled.proofs.Laws.{held-count, held-form, held-fine}
 use Rattle.reading.specs.Reading.{matching}

@@ -3,8 +3,8 @@ use Prim.Native.Nat.{_-_}
 use mathlib.Core.Path.{_≡_, refl}
 use native.Mathlib.Omega.{arith}
 use borrow.Author.Needs.{needs}
-use Rattle.wire.specs.Rules.{allIn}
-use Rattle.record.specs.Rules.{sectionsApart}
+use Rattle.wire.specs.RuleWords.{allIn}
+use Rattle.record.specs.RecordRules.{sectionsApart}
 use Rattle.wire.proofs.Tests.{turn-kept, turn-broken, turns-done}
 use Rattle.record.proofs.all_apart.Statement.{statement}
 use Rattle.record.proofs.all_apart.Tie as tie

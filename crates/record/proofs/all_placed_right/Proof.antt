@@ -2,8 +2,8 @@
 use Prim.Native.Nat.{_-_}
 use mathlib.Core.Path.{_≡_}
 use borrow.Author.Needs.{needs}
-use Rattle.wire.specs.Rules.{allIn}
-use Rattle.record.specs.Rules.{placedRight, allPlacedRight}
+use Rattle.wire.specs.RuleWords.{allIn}
+use Rattle.record.specs.RecordRules.{placedRight, allPlacedRight}
 use Rattle.wire.proofs.Tests.{kept, broken, turn-kept, turn-broken, turns-done}
 use Rattle.record.proofs.all_placed_right.Statement.{statement}
 use Rattle.record.proofs.all_placed_right.Tie as tie

@@ -3,7 +3,7 @@ use Prim.Native.Nat.{ℕ, _+_}
 use mathlib.Core.Path.{_≡_, ap, _∙_}
 use borrow.Author.Needs.{needs}
 use Rattle.pointers.specs.Pointers.{section0Length}
-use Rattle.record.specs.Rules.{holdsCheck, checksRight}
+use Rattle.record.specs.RecordRules.{holdsCheck, checksRight}
 use Rattle.wire.proofs.Tests.{kept, broken}
 use Rattle.record.proofs.checks_right.Statement.{statement}
 use Rattle.record.proofs.checks_right.Tie as tie

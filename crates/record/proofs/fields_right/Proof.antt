@@ -4,7 +4,7 @@ use mathlib.Core.Path.{ap, _∙_}
 use mathlib.Core.List.{List}
 use borrow.Author.Needs.{needs}
 use Rattle.header.specs.Header.{section1Right}
-use Rattle.record.specs.Rules.{fieldsRight}
+use Rattle.record.specs.RecordRules.{fieldsRight}
 use Rattle.record.proofs.fields_right.Statement.{statement}
 use Rattle.record.proofs.fields_right.Tie as tie
 

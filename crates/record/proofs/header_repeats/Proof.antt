@@ -5,7 +5,7 @@ use mathlib.Core.Bool.{and-false}
 use borrow.Author.Needs.{needs}
 use Rattle.wire.specs.Numbers.{numberAt}
 use Rattle.pointers.specs.Pointers.{startOf}
-use Rattle.record.specs.Rules.{headerRepeats}
+use Rattle.record.specs.RecordRules.{headerRepeats}
 use Rattle.wire.proofs.Tests.{same, differ}
 use Rattle.record.proofs.header_repeats.Statement.{statement}
 use Rattle.record.proofs.header_repeats.Tie as tie

@@ -4,7 +4,7 @@ use mathlib.Core.Path.{_≡_, ap, _∙_}
 use borrow.Author.Needs.{needs}
 use Rattle.wire.specs.Numbers.{part}
 use Rattle.wire.specs.Check.{crcOf}
-use Rattle.record.specs.Rules.{holdsCheck}
+use Rattle.record.specs.RecordRules.{holdsCheck}
 use Rattle.wire.proofs.Tests.{same, differ}
 use Rattle.record.proofs.holds_check.Statement.{statement}
 use Rattle.record.proofs.holds_check.Tie as tie

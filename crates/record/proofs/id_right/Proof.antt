@@ -5,7 +5,7 @@ use native.Mathlib.Omega.{arith}
 use borrow.Author.Needs.{needs}
 use borrow.Author.Tests.{lt-ltb, le-ltb}
 use Rattle.pointers.specs.Pointers.{idOf}
-use Rattle.record.specs.Rules.{idRight}
+use Rattle.record.specs.RecordRules.{idRight}
 use Rattle.wire.proofs.Tests.{same, differ}
 use Rattle.record.proofs.id_right.Statement.{statement}
 use Rattle.record.proofs.id_right.Tie as tie

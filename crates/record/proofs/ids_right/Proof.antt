@@ -2,8 +2,8 @@
 use Prim.Native.Nat.{_-_}
 use mathlib.Core.Path.{_≡_, refl}
 use borrow.Author.Needs.{needs}
-use Rattle.wire.specs.Rules.{allIn}
-use Rattle.record.specs.Rules.{idRight}
+use Rattle.wire.specs.RuleWords.{allIn}
+use Rattle.record.specs.RecordRules.{idRight}
 use Rattle.wire.proofs.Tests.{turn-kept, turn-broken, turns-done}
 use Rattle.record.proofs.ids_right.Statement.{statement}
 use Rattle.record.proofs.ids_right.Tie as tie

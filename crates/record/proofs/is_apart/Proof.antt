@@ -4,7 +4,7 @@ use native.Mathlib.Omega.{arith}
 use borrow.Author.Needs.{needs}
 use borrow.Author.Tests.{le-leb, lt-leb}
 use Rattle.pointers.specs.Pointers.{startOf, endOf}
-use Rattle.record.specs.Rules.{sectionsApart}
+use Rattle.record.specs.RecordRules.{sectionsApart}
 use Rattle.wire.proofs.Tests.{kept, broken}
 use Rattle.record.proofs.is_apart.Statement.{statement}
 use Rattle.record.proofs.is_apart.Tie as tie

@@ -5,7 +5,7 @@ use native.Mathlib.Omega.{arith}
 use lib.ListN.{length}
 use borrow.Author.Needs.{needs}
 use borrow.Author.Tests.{le-leb, lt-leb}
-use Rattle.record.specs.Rules.{lengthRight}
+use Rattle.record.specs.RecordRules.{lengthRight}
 use Rattle.wire.proofs.Tests.{same, differ}
 use Rattle.record.proofs.length_right.Statement.{statement}
 use Rattle.record.proofs.length_right.Tie as tie

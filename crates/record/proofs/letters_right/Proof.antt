@@ -2,7 +2,7 @@
 use mathlib.Core.Path.{refl}
 use mathlib.Core.Bool.{and-false}
 use borrow.Author.Needs.{needs}
-use Rattle.record.specs.Rules.{lettersRight}
+use Rattle.record.specs.RecordRules.{lettersRight}
 use Rattle.wire.proofs.Tests.{same, differ}
 use Rattle.record.proofs.letters_right.Statement.{statement}
 use Rattle.record.proofs.letters_right.Tie as tie

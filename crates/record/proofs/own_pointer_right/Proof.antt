@@ -2,7 +2,7 @@
 use mathlib.Core.Path.{refl}
 use mathlib.Core.Bool.{and-false}
 use borrow.Author.Needs.{needs}
-use Rattle.record.specs.Rules.{ownPointerRight}
+use Rattle.record.specs.RecordRules.{ownPointerRight}
 use Rattle.wire.proofs.Tests.{same, differ}
 use Rattle.record.proofs.own_pointer_right.Statement.{statement}
 use Rattle.record.proofs.own_pointer_right.Tie as tie

@@ -6,7 +6,7 @@ use lib.ListN.{length}
 use borrow.Author.Needs.{needs}
 use borrow.Author.Tests.{eq-eqb, ne-eqb, le-leb, lt-leb, lt-ltb, le-ltb}
 use Rattle.pointers.specs.Pointers.{section0Length, lengthOf, indexOf, endOf}
-use Rattle.record.specs.Rules.{placeRight}
+use Rattle.record.specs.RecordRules.{placeRight}
 use Rattle.record.proofs.place_right.Statement.{statement}
 use Rattle.record.proofs.place_right.Tie as tie
 

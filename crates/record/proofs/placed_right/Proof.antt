@@ -1,7 +1,7 @@
 -- The tests are the rule's parts, in its order, and the last call is its last part.
 use mathlib.Core.Bool.{and-false}
 use borrow.Author.Needs.{needs}
-use Rattle.record.specs.Rules.{placedRight}
+use Rattle.record.specs.RecordRules.{placedRight}
 use Rattle.wire.proofs.Tests.{kept, broken}
 use Rattle.record.proofs.placed_right.Statement.{statement}
 use Rattle.record.proofs.placed_right.Tie as tie

@@ -1,6 +1,6 @@
 -- The part whose check is asked for is the whole record.
 use borrow.Author.Needs.{needs}
-use Rattle.record.specs.Rules.{recordCheckRight}
+use Rattle.record.specs.RecordRules.{recordCheckRight}
 use Rattle.record.proofs.record_check_right.Statement.{statement}
 use Rattle.record.proofs.record_check_right.Tie as tie
 

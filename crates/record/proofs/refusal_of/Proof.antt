@@ -3,8 +3,8 @@ use Prim.Native.Nat.{ℕ}
 use mathlib.Core.Path.{_≡_}
 use mathlib.Core.List.{List}
 use borrow.Author.Needs.{needs}
-use Rattle.wire.specs.Rules.{unless}
-use Rattle.record.specs.Rules.{recordCheckRight, section0Right, allPlacedRight, checksRight, fieldsRight}
+use Rattle.wire.specs.RuleWords.{unless}
+use Rattle.record.specs.RecordRules.{recordCheckRight, section0Right, allPlacedRight, checksRight, fieldsRight}
 use Rattle.record.specs.Opening.{openRefusal}
 use Rattle.wire.proofs.Tests.{kept, broken}
 use Rattle.record.proofs.refusal_of.Statement.{statement}

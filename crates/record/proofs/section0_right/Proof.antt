@@ -6,9 +6,9 @@ use native.Mathlib.Omega.{arith}
 use lib.ListN.{length}
 use borrow.Author.Needs.{needs}
 use borrow.Author.Tests.{eq-eqb, ne-eqb, le-leb, lt-leb}
-use Rattle.wire.specs.Rules.{allIn}
+use Rattle.wire.specs.RuleWords.{allIn}
 use Rattle.pointers.specs.Pointers.{countOf, section0Length}
-use Rattle.record.specs.Rules.{idRight, section0Right}
+use Rattle.record.specs.RecordRules.{idRight, section0Right}
 use Rattle.wire.proofs.Tests.{kept, broken, same, differ}
 use Rattle.record.proofs.section0_right.Statement.{statement}
 use Rattle.record.proofs.section0_right.Tie as tie

@@ -1,7 +1,7 @@
 -- An absent section keeps the rule; of another, the check is asked for from its own start up to its end.
 use mathlib.Core.Path.{ap₂, _∙_}
 use borrow.Author.Needs.{needs}
-use Rattle.record.specs.Rules.{holdsCheck, sectionCheckRight}
+use Rattle.record.specs.RecordRules.{holdsCheck, sectionCheckRight}
 use Rattle.wire.proofs.Tests.{kept, broken}
 use Rattle.record.proofs.section_check_right.Statement.{statement}
 use Rattle.record.proofs.section_check_right.Tie as tie

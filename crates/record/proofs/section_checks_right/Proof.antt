@@ -2,9 +2,9 @@
 use Prim.Native.Nat.{_-_}
 use mathlib.Core.Path.{_≡_}
 use borrow.Author.Needs.{needs}
-use Rattle.wire.specs.Rules.{allIn}
+use Rattle.wire.specs.RuleWords.{allIn}
 use Rattle.pointers.specs.Pointers.{countOf}
-use Rattle.record.specs.Rules.{sectionCheckRight}
+use Rattle.record.specs.RecordRules.{sectionCheckRight}
 use Rattle.wire.proofs.Tests.{turn-kept, turn-broken, turns-done}
 use Rattle.record.proofs.section_checks_right.Statement.{statement}
 use Rattle.record.proofs.section_checks_right.Tie as tie

@@ -4,9 +4,9 @@ use mathlib.Core.Path.{_≡_, ap₂, _∙_}
 use mathlib.Core.Bool.{and-false}
 use borrow.Author.Needs.{needs}
 use Rattle.pointers.specs.Pointers.{sectionOf}
-use Rattle.entries.specs.Streams.{streamsRight}
-use Rattle.entries.specs.Beat.{section4Right}
-use Rattle.rules.specs.Rules.{leadCountOf, beatRight}
+use Rattle.entries.specs.Sections5And6.{streamsRight}
+use Rattle.entries.specs.Section4.{section4Right}
+use Rattle.rules.specs.LeadRules.{leadCountOf, beatRight}
 use Rattle.wire.proofs.Tests.{kept, broken}
 use Rattle.entries.proofs.Laws.{interval-some}
 use Rattle.rules.proofs.beat_right.Statement.{statement}

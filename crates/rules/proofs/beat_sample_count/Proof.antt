@@ -5,9 +5,9 @@ use mathlib.Core.List.{List}
 use native.Mathlib.Omega.{arith}
 use borrow.Author.Needs.{needs}
 use Rattle.pointers.specs.Pointers.{sectionOf}
-use Rattle.entries.specs.Streams.{intervalOf}
-use Rattle.entries.specs.Beat.{beatLength, samplesInBeat}
-use Rattle.rules.specs.Rules.{beatSampleCount}
+use Rattle.entries.specs.Sections5And6.{intervalOf}
+use Rattle.entries.specs.Section4.{beatLength, samplesInBeat}
+use Rattle.rules.specs.LeadRules.{beatSampleCount}
 use Rattle.rules.proofs.beat_sample_count.Statement.{statement}
 use Rattle.rules.proofs.beat_sample_count.Tie as tie
 

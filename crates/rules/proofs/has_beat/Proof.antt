@@ -5,8 +5,8 @@ use mathlib.Core.Bool.{and-false}
 use mathlib.Core.List.{List}
 use borrow.Author.Needs.{needs}
 use Rattle.pointers.specs.Pointers.{sectionOf}
-use Rattle.entries.specs.Leads.{flagsOf}
-use Rattle.rules.specs.Rules.{beatSubtracted}
+use Rattle.entries.specs.Section3.{flagsOf}
+use Rattle.rules.specs.LeadRules.{beatSubtracted}
 use Rattle.wire.proofs.Tests.{kept, broken, same, differ}
 use Rattle.rules.proofs.has_beat.Statement.{statement}
 use Rattle.rules.proofs.has_beat.Tie as tie

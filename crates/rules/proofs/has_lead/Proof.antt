@@ -3,7 +3,7 @@ use mathlib.Core.Bool.{and-false}
 use native.Mathlib.Omega.{arith}
 use borrow.Author.Needs.{needs}
 use borrow.Author.Tests.{le-leb, lt-leb}
-use Rattle.rules.specs.Rules.{leadCountOf, hasLead}
+use Rattle.rules.specs.LeadRules.{leadCountOf, hasLead}
 use Rattle.wire.proofs.Tests.{kept, broken}
 use Rattle.rules.proofs.has_lead.Statement.{statement}
 use Rattle.rules.proofs.has_lead.Tie as tie

@@ -4,8 +4,8 @@ use mathlib.Core.Path.{_≡_, refl, ap, _∙_}
 use mathlib.Core.List.{List}
 use borrow.Author.Needs.{needs}
 use Rattle.pointers.specs.Pointers.{sectionOf}
-use Rattle.entries.specs.Streams.{bimodalOf}
-use Rattle.rules.specs.Rules.{agrees}
+use Rattle.entries.specs.Sections5And6.{bimodalOf}
+use Rattle.rules.specs.LeadRules.{agrees}
 use Rattle.wire.proofs.Tests.{kept, broken, same, differ}
 use Rattle.rules.proofs.is_agreed.Statement.{statement}
 use Rattle.rules.proofs.is_agreed.Tie as tie

@@ -3,8 +3,8 @@ use Prim.Native.Nat.{ℕ}
 use mathlib.Core.Path.{_≡_}
 use mathlib.Core.List.{List}
 use borrow.Author.Needs.{needs}
-use Rattle.wire.specs.Rules.{unless}
-use Rattle.rules.specs.Rules.{tablesRight, sections3To6Right, agrees, hasLead, leadRefusal}
+use Rattle.wire.specs.RuleWords.{unless}
+use Rattle.rules.specs.LeadRules.{tablesRight, sections3To6Right, agrees, hasLead, leadRefusal}
 use Rattle.wire.proofs.Tests.{kept, broken}
 use Rattle.record.proofs.Laws.{opened, refused}
 use Rattle.rules.proofs.lead_refusal.Statement.{statement}

@@ -3,7 +3,7 @@ use Prim.Native.Nat.{ℕ}
 use mathlib.Core.Path.{ap, _∙_}
 use mathlib.Core.List.{List}
 use borrow.Author.Needs.{needs}
-use Rattle.entries.specs.Leads.{leadCount}
+use Rattle.entries.specs.Section3.{leadCount}
 use Rattle.rules.proofs.leads_of.Statement.{statement}
 use Rattle.rules.proofs.leads_of.Tie as tie
 

@@ -6,8 +6,8 @@ use mathlib.Core.Bool.{and-false}
 use native.Mathlib.Omega.{arith}
 use borrow.Author.Needs.{needs}
 use Rattle.pointers.specs.Pointers.{sectionOf}
-use Rattle.entries.specs.Leads.{section3Right}
-use Rattle.rules.specs.Rules.{leadCountOf, sections3To6Right}
+use Rattle.entries.specs.Section3.{section3Right}
+use Rattle.rules.specs.LeadRules.{leadCountOf, sections3To6Right}
 use Rattle.wire.proofs.Tests.{kept, broken}
 use Rattle.entries.proofs.Laws as entries
 use Rattle.rules.proofs.leads_right.Statement.{statement}

@@ -1,8 +1,8 @@
 -- An absent Section 6 keeps the rule; another is judged for the leads of Section 3.
 use mathlib.Core.Path.{ap₂, _∙_}
 use borrow.Author.Needs.{needs}
-use Rattle.entries.specs.Streams.{section6Right}
-use Rattle.rules.specs.Rules.{section6Kept}
+use Rattle.entries.specs.Sections5And6.{section6Right}
+use Rattle.rules.specs.LeadRules.{section6Kept}
 use Rattle.wire.proofs.Tests.{kept, broken}
 use Rattle.rules.proofs.rhythm_right.Statement.{statement}
 use Rattle.rules.proofs.rhythm_right.Tie as tie

@@ -1,7 +1,7 @@
 -- Without a beat nothing is compared; with one the tests are the rule's two parts, in its order.
 use mathlib.Core.Bool.{and-false}
 use borrow.Author.Needs.{needs}
-use Rattle.rules.specs.Rules.{stepsAgree}
+use Rattle.rules.specs.LeadRules.{stepsAgree}
 use Rattle.wire.proofs.Tests.{kept, broken, same, differ}
 use Rattle.rules.proofs.steps_agree.Statement.{statement}
 use Rattle.rules.proofs.steps_agree.Tie as tie

@@ -4,7 +4,7 @@ use mathlib.Core.Path.{ap, _∙_}
 use mathlib.Core.List.{List}
 use borrow.Author.Needs.{needs}
 use Rattle.tables.specs.Section2.{section2Right}
-use Rattle.rules.specs.Rules.{tablesRight}
+use Rattle.rules.specs.LeadRules.{tablesRight}
 use Rattle.wire.proofs.Tests.{kept, broken}
 use Rattle.rules.proofs.tables_right.Statement.{statement}
 use Rattle.rules.proofs.tables_right.Tie as tie

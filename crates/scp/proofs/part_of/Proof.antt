@@ -1,6 +1,6 @@
 -- Each case of a place has its numbers.
 use mathlib.Core.Path.{sym, ap}
-use Rattle.scp.specs.Answers.{partAt}
+use Rattle.scp.specs.Boundary.{partAt}
 use borrow.Author.Needs.{needs}
 use Rattle.scp.proofs.part_of.Statement.{statement}
 use Rattle.scp.proofs.part_of.Tie as tie

@@ -2,7 +2,7 @@
 use mathlib.Core.Path.{sym, ap, _∙_}
 use mathlib.Core.Bool.{Bool, not}
 use borrow.Author.Needs.{needs}
-use Rattle.scp.specs.Answers.{oneIf}
+use Rattle.scp.specs.Boundary.{oneIf}
 use Rattle.scp.proofs.scp_breaks.Statement.{statement}
 use Rattle.scp.proofs.scp_breaks.Tie as tie
 

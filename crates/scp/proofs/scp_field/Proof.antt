@@ -1,6 +1,6 @@
 -- The field's place is passed on as numbers.
 use mathlib.Core.Path.{ap, _∙_}
-use Rattle.scp.specs.Answers.{partAt}
+use Rattle.scp.specs.Boundary.{partAt}
 use borrow.Author.Needs.{needs}
 use Rattle.scp.proofs.scp_field.Statement.{statement}
 use Rattle.scp.proofs.scp_field.Tie as tie

@@ -1,6 +1,6 @@
 -- The answer, as a number.
 use mathlib.Core.Path.{sym, ap, _∙_}
-use Rattle.scp.specs.Answers.{oneIf}
+use Rattle.scp.specs.Boundary.{oneIf}
 use borrow.Author.Needs.{needs}
 use Rattle.scp.proofs.scp_same_identifier.Statement.{statement}
 use Rattle.scp.proofs.scp_same_identifier.Tie as tie

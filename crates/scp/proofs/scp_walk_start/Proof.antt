@@ -1,6 +1,6 @@
 -- The walk's place is passed on as numbers.
 use mathlib.Core.Path.{ap, _∙_}
-use Rattle.scp.specs.Answers.{partAt}
+use Rattle.scp.specs.Boundary.{partAt}
 use borrow.Author.Needs.{needs}
 use Rattle.scp.proofs.scp_walk_start.Statement.{statement}
 use Rattle.scp.proofs.scp_walk_start.Tie as tie

@@ -1,7 +1,7 @@
 -- Each case of a step has its numbers; a field that a step shows is whole, so that its length is no less than nothing.
 use mathlib.Core.Path.{sym, ap, _∙_}
 use Rattle.header.proofs.Laws.{step-found}
-use Rattle.scp.specs.Answers.{shown}
+use Rattle.scp.specs.Boundary.{shown}
 use borrow.Author.Needs.{needs}
 use Rattle.scp.proofs.scp_walk_step.Statement.{statement}
 use Rattle.scp.proofs.scp_walk_step.Tie as tie

@@ -5,7 +5,7 @@ use native.Mathlib.Omega.{arith}
 use borrow.Author.Needs.{needs}
 use Rattle.tables.specs.Section2.{tablesFrom, tableRight}
 use Rattle.wire.proofs.Tests.{kept, broken}
-use Rattle.wire.specs.Rules.{every}
+use Rattle.wire.specs.RuleWords.{every}
 use Rattle.tables.proofs.Laws.{every-miss, every-step, every-end, tables-cons, tables-none, after-right}
 use Rattle.tables.proofs.all_tables_right.Statement.{statement}
 use Rattle.tables.proofs.all_tables_right.Tie as tie

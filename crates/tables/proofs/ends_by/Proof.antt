@@ -1,7 +1,7 @@
 -- The two tests are the definition's, in its order.
 use borrow.Author.Needs.{needs}
 use borrow.Author.Tests.{le-leb, lt-leb}
-use Rattle.wire.specs.Rules.{endsBy}
+use Rattle.wire.specs.RuleWords.{endsBy}
 use Rattle.tables.proofs.ends_by.Statement.{statement}
 use Rattle.tables.proofs.ends_by.Tie as tie
 

@@ -6,7 +6,7 @@ use borrow.Author.Needs.{needs}
 use Rattle.tables.specs.declared.Structure.{Structure}
 use Rattle.tables.specs.Structures.{structuresAt, apart, prefixFree}
 use Rattle.wire.proofs.Tests.{kept, broken}
-use Rattle.wire.specs.Rules.{every}
+use Rattle.wire.specs.RuleWords.{every}
 use Rattle.tables.proofs.Laws.{structures-cons, structures-none}
 use Rattle.tables.proofs.is_prefix_free.Statement.{statement}
 use Rattle.tables.proofs.is_prefix_free.Tie as tie

@@ -5,7 +5,8 @@ use native.Mathlib.Nat.{zero-add}
 use borrow.Author.Needs.{needs}
 use Rattle.header.specs.declared.Step.{Step}
 use Rattle.header.proofs.Laws.{Whole, step-found}
-use Rattle.walker.specs.Walk.{shownStart, shownBytes}
+use Rattle.header.specs.Fields.{shownBytes}
+use Rattle.walker.specs.Walk.{shownStart}
 use Rattle.walker.proofs.bytes_at.Statement.{statement}
 use Rattle.walker.proofs.bytes_at.Tie as tie
 

@@ -42,8 +42,8 @@ use denote.Triple.Walked.{says, Stays, stay-none, walkOf, goes-none, Walks, ends
 use denote.Exit.{yes}
 use denote.Triple.Clauses.{ensured, lasts}
 use Rattle.header.specs.declared.Step.{Step}
-use Rattle.header.specs.Fields.{stepAt}
-use Rattle.walker.specs.Walk.{shownStart, shownBytes}
+use Rattle.header.specs.Fields.{stepAt, shownBytes}
+use Rattle.walker.specs.Walk.{shownStart}
 use Rattle.walker.specs.declared.Walker.{Walker}
 use Rattle.walker.specs.declared.Facts.{Facts}
 use Rattle.walker.specs.declared.Shown.{Shown}

@@ -7,11 +7,11 @@ use lib.Dec.{eqb}
 use lib.IntN.{ℤ, pos}
 use lib.ListN.{length, drop, replicate}
 use Rattle.pointers.specs.Pointers.{sectionOf}
-use Rattle.entries.specs.Leads.{flagsOf, firstSample, lastSample, leadId}
-use Rattle.entries.specs.Streams.{stepOf, intervalOf, orderOf, byteCountOf}
-use Rattle.rules.specs.Rules.{leadCountOf, beatSubtracted, leadRefusal}
+use Rattle.entries.specs.Section3.{flagsOf, firstSample, lastSample, leadId}
+use Rattle.entries.specs.Sections5And6.{stepOf, intervalOf, orderOf, byteCountOf}
+use Rattle.rules.specs.LeadRules.{leadCountOf, beatSubtracted, leadRefusal}
 use Rattle.samples.specs.Trace.{Trace, rebuilt, fault}
-use Rattle.leads.specs.Leads.{readRefusal, readTrace}
+use Rattle.leads.specs.LeadTrace.{readRefusal, readTrace}
 use Rattle.leads.specs.declared.Lead.{Lead}
 use Rattle.leads.specs.declared.Entry.{Entry}
 

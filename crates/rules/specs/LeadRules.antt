@@ -4,13 +4,13 @@ use Prim.Native.Nat.{ℕ}
 use mathlib.Core.Bool.{Bool, not, _&&_, _||_, cond}
 use mathlib.Core.List.{List}
 use lib.Dec.{leb, eqb}
-use Rattle.wire.specs.Rules.{unless}
+use Rattle.wire.specs.RuleWords.{unless}
 use Rattle.pointers.specs.Pointers.{dataAt, present, sectionOf}
 use Rattle.record.specs.Opening.{openRefusal, opens}
 use Rattle.tables.specs.Section2.{section2Right}
-use Rattle.entries.specs.Leads.{leadCount, subtracted, section3Right}
-use Rattle.entries.specs.Streams.{stepOf, intervalOf, bimodalOf, streamsRight, section6Right}
-use Rattle.entries.specs.Beat.{beatLength, samplesInBeat, section4Right}
+use Rattle.entries.specs.Section3.{leadCount, subtracted, section3Right}
+use Rattle.entries.specs.Sections5And6.{stepOf, intervalOf, bimodalOf, streamsRight, section6Right}
+use Rattle.entries.specs.Section4.{beatLength, samplesInBeat, section4Right}
 
 -- 7: Section 2 is absent, or keeps its rule, with at most one spare byte
 unfoldable pub tablesRight : List ℕ → Bool

@@ -5,7 +5,7 @@ use mathlib.Core.Bool.{Bool, _&&_}
 use mathlib.Core.List.{List}
 use lib.Dec.{leb, eqb}
 use Rattle.wire.specs.Numbers.{byteAt, numberAt}
-use Rattle.wire.specs.Rules.{allIn, endsBy}
+use Rattle.wire.specs.RuleWords.{allIn, endsBy}
 
 -- a byte says how many leads there are, and a byte has the flags, of which bit 0 is 1 where a reference beat was
 -- subtracted; no rule looks at the others

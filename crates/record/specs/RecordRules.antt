@@ -7,9 +7,9 @@ use lib.Dec.{leb, ltb, eqb}
 use lib.ListN.{length}
 use Rattle.wire.specs.Numbers.{byteAt, numberAt, part}
 use Rattle.wire.specs.Check.{crcOf}
-use Rattle.wire.specs.Rules.{allIn}
+use Rattle.wire.specs.RuleWords.{allIn}
 use Rattle.header.specs.Header.{section1Right}
-use Rattle.pointers.specs.Pointers.{section0Length, dataAt, countOf, idOf, lengthOf, indexOf, present, startOf, endOf, sectionOf}
+use Rattle.pointers.specs.Pointers.{section0Length, dataAt, fewestPointers, countOf, idOf, lengthOf, indexOf, present, startOf, endOf, sectionOf}
 
 -- 1: there are 142 to 1,048,576 bytes, as many as the size field says
 unfoldable pub lengthRight : List ℕ → Bool
@@ -39,13 +39,13 @@ idRight r k = cond (ltb k 12) (eqb (idOf r k) k) (ltb (idOf r (k - 1)) (idOf r k
 unfoldable pub ownPointerRight : List ℕ → Bool
 ownPointerRight r = eqb (lengthOf r 0) (section0Length r) && eqb (indexOf r 0) 7
 
--- 3: Section 0 has ID 0, the letters, and 12 to 64 whole pointers with nothing behind them; it lies in the record, its own pointer is
+-- 3: Section 0 has ID 0, the letters, and 12 to 64 whole pointers (`countOf` never says more) with nothing behind them; it lies in the record, its own pointer is
 -- right, and the pointers' IDs are in order
 unfoldable pub section0Right : List ℕ → Bool
 section0Right r =
     eqb (numberAt 2 r 8) 0
     && (lettersRight r
-    && (leb 12 (countOf r)
+    && (leb fewestPointers (countOf r)
     && (eqb (section0Length r) (16 + 10 * countOf r)
     && (leb (6 + section0Length r) (length r)
     && (ownPointerRight r && allIn 0 (countOf r) (idRight r))))))

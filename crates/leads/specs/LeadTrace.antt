@@ -3,14 +3,14 @@ use Prim.Native.Nat.{ℕ, _-_}
 use mathlib.Core.Bool.{Bool, not, _&&_, _||_, cond}
 use mathlib.Core.List.{List, []}
 use lib.Dec.{leb, eqb}
-use Rattle.wire.specs.Rules.{unless}
+use Rattle.wire.specs.RuleWords.{unless}
 use Rattle.pointers.specs.Pointers.{dataAt, present, sectionOf}
 use Rattle.bits.specs.Bits.{bitsIn}
 use Rattle.tables.specs.declared.Structure.{Structure}
 use Rattle.tables.specs.Section2.{tablesIn}
-use Rattle.entries.specs.Leads.{firstSample, sampleCount}
-use Rattle.entries.specs.Streams.{orderOf, streamOf}
-use Rattle.rules.specs.Rules.{leadCountOf, beatSubtracted, beatSampleCount, leadRefusal}
+use Rattle.entries.specs.Section3.{firstSample, sampleCount}
+use Rattle.entries.specs.Sections5And6.{orderOf, streamOf}
+use Rattle.rules.specs.LeadRules.{leadCountOf, beatSubtracted, beatSampleCount, leadRefusal}
 use Rattle.samples.specs.Trace.{Trace, fault, afterTrace}
 use Rattle.traces.specs.Rebuilding.{rebuild}
 use Rattle.beats.specs.Sums.{addBeat}
@@ -37,9 +37,8 @@ residual r k = streamTrace r 6 (sampleCountAt r k) k
 unfoldable pub traceAt : List ℕ → ℕ → Trace
 traceAt r k =
     cond (beatSubtracted r)
-    (afterTrace
-    (λ beat. afterTrace (λ xs. addBeat (sectionOf r 4) beat (firstSample (sectionOf r 3) k) xs) (residual r k))
-    (streamTrace r 5 (beatSampleCount r) k))
+    (afterTrace (streamTrace r 5 (beatSampleCount r) k)
+    (λ beat. afterTrace (residual r k) (λ xs. addBeat (sectionOf r 4) beat (firstSample (sectionOf r 3) k) xs)))
     (residual r k)
 
 -- 11: the output has room for the lead's samples, and the work space, where a beat was subtracted, for the beat's

@@ -6,7 +6,7 @@ use mathlib.Core.List.{List}
 use lib.Dec.{leb, ltb, eqb}
 use lib.ListN.{length}
 use Rattle.wire.specs.Numbers.{numberAt}
-use Rattle.wire.specs.Rules.{allIn}
+use Rattle.wire.specs.RuleWords.{allIn}
 
 -- the beat's length in ms, its fiducial F, and how many QRS complexes there are, in two bytes each
 abbrev pub beatLength : List ℕ → ℕ
@@ -42,7 +42,8 @@ lastBefore s zero = 0
 lastBefore s (suc k) = cond (eqb (qrsType s k) 0) (zoneEnd s k) (lastBefore s k)
 
 -- a zone of type 0 starts at sample 1 or later and does not end before it starts; it starts behind the nearest zone of type 0 before
--- it; and for every n in it the beat has a sample n - C + F. Of any other type, SB and SE are both 0
+-- it; and for every n in it the beat has a sample n - C + F. That number grows with n, so that it is from 1 to N for every n of the
+-- zone if it is at least 1 for the first, SB, and at most N for the last, SE. For any other type, SB and SE are both 0
 unfoldable pub zoneRight : ℕ → List ℕ → ℕ → Bool
 zoneRight samples s k =
     cond (eqb (qrsType s k) 0)

@@ -5,7 +5,7 @@ use mathlib.Core.Bool.{Bool, not, _&&_}
 use mathlib.Core.List.{List}
 use lib.Dec.{leb, eqb}
 use Rattle.wire.specs.Numbers.{byteAt, numberAt, part}
-use Rattle.wire.specs.Rules.{endsBy}
+use Rattle.wire.specs.RuleWords.{endsBy}
 
 -- the step between amplitudes in nanovolts (2), the interval between samples in microseconds (2), the difference order (1), and
 -- a byte that Section 6 has for bimodal
