@@ -1,4 +1,5 @@
 pub mod Laws
+mod Lent
 pub mod Identifiers
 pub mod Faults
 pub mod Refusals
