@@ -6,7 +6,8 @@
  * a call.
  *
  * What holds for every call:
- *   - Lent bytes are a pointer and a length. A call reads and writes nothing outside them.
+ *   - Lent bytes are a pointer and a length. A call reads and writes nothing outside them. A part that a call writes to must
+ *     not overlap any other part lent to the same call.
  *   - Any bytes and any numbers may be given, and every call ends.
  *   - `refusal` is 0 (accepted) or the number of the rule that is broken, the smallest if there are several (below);
  *     where a call says an order of its own, the first in that order.
