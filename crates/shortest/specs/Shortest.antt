@@ -1,8 +1,8 @@
 -- The promise on a stream (the customer's third demand, whose words stand in crates/answers/specs/Demands.antt; row 15 and the tie: 01,
--- Refusal numbers). Among all streams that the reading rule, starting in table 1, takes to these values with nothing left, the shortest has the fewest
--- bits, and where others have as few, it is the one that has a 0 where another first differs from it. The values are the
--- differences of a lead's samples: a stream reads to the samples exactly if it reads to these. `tables` are those that Section 2's
--- data mean; the empty list stands for no Section 2.
+-- Refusal numbers). Among all streams that the reading rule, starting in table 1, takes to these values with nothing left, the shortest
+-- has the fewest bits, and where others have as few, it is the one that has a 0 where another first differs from it. The values are the
+-- differences of a lead's samples: a stream reads to the samples exactly if it reads to these. `tables` are those that Section 2's data
+-- mean; the empty list stands for no Section 2.
 use Prim.Native.Nat.{ℕ, _≤_}
 use mathlib.Core.Path.{_≡_}
 use mathlib.Core.Bool.{Bool, true}
@@ -40,7 +40,3 @@ pub record Shortest (tables : List (List Structure)) (vs : List ℤ) (bs : List 
 -- no stream reads to these values
 abbrev pub NoStream : List (List Structure) → List ℤ → Type 0
 NoStream tables vs = (bs : List ℕ) → Stream tables vs bs → ⊥
-
--- there is a shortest stream, and it takes n bits
-abbrev pub Takes : List (List Structure) → List ℤ → ℕ → Type 0
-Takes tables vs n = ((bs : List ℕ) × Shortest tables vs bs) × ((bs : List ℕ) → Shortest tables vs bs → length bs ≡ n)
