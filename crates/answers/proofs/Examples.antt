@@ -1,4 +1,5 @@
--- Every example of the table holds: by computation, but for P9, which speaks of every set of tables. Assumes nothing.
+-- Every example of the table holds: by computation, but for P9, which speaks of every set of tables. Where a stream is the shortest, the
+-- numbers behind it are its codes: for each, the place of its structure in the table that is current there. Assumes nothing.
 use Prim.Native.Nat.{ℕ, _*_, _≤_}
 use mathlib.Core.Path.{_≡_, refl, sym, _∙_}
 use mathlib.Core.Bool.{true}

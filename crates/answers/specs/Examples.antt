@@ -1,4 +1,5 @@
--- The examples of 01 (Examples to hold against), as one table, P1 to P10.
+-- The examples of 01 (Examples to hold against), as one table, P1 to P10. A whole number is `pos n`, which is n, or `negsuc n`, which is
+-- -(n + 1): `negsuc 3` is -4.
 use Prim.Native.Nat.{ℕ, _*_, _≤_}
 use mathlib.Core.Path.{_≡_}
 use mathlib.Core.Bool.{true, false}
@@ -42,8 +43,6 @@ twoTables =
 -- Section 2's data that name the default table: 19,999
 unfoldable pub namedDefault : List ℕ
 namedDefault = 31 ∷ 78 ∷ []
-
--- A whole number is `pos n`, which is n, or `negsuc n`, which is -(n + 1): `negsuc 3` is -4
 
 -- the values of P3: 14 18 0 -4 -9 -1 5
 unfoldable pub valuesP3 : List ℤ

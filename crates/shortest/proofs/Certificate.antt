@@ -1,6 +1,6 @@
 -- A given stream is the shortest, by computation. Costs are made layer by layer and tested to be closed, so that no stream is shorter;
--- the given one is that short; and at each of its codes every other structure costs more, so that it is the only one as short, and the
--- tie does not matter. Assumes nothing.
+-- the given one is that short; and at each of its codes every other structure costs more, so that no other stream is as short, and
+-- there is no tie. Assumes nothing.
 use Prim.Native.Nat.{ℕ, zero, suc, _+_, _^_, _≤_, _<_, min}
 use mathlib.Core.Path.{_≡_, refl, sym, ap, _∙_}
 use mathlib.Core.Bool.{Bool, true, false, _&&_, cond, and-eq-true-iff}
@@ -82,9 +82,9 @@ module _ {A : Type 0} (G : Codes A) (cap : ℕ) where
       let p = and-eq-true-iff (isClosed next cur v) (costsOf vs .1) .0 h in
       lower G W cap (at next) (at cur) v vs (closed-at next cur v (p .0)) (costs-low W vs (p .1)) t s ht r
 
--- ---- one stream only costs as little
+-- ---- no other stream costs as little
 
--- a test that is weaker at k than elsewhere, where the weaker one alone can hold
+-- of every j but k the test asks for more than the least, so a sum that passes it and is no more than the least is k's
 only-at : (j k least sum n : ℕ) → leb (cond (eqb j k) least (suc least)) sum ≡ true → sum ≤ n → n ≤ least → (j ≡ k) × (least ≤ sum)
 only-at j k least sum n h l m = go (eqb j k) refl h
   where
@@ -93,7 +93,7 @@ only-at j k least sum n h l m = go (eqb j k) refl h
     go false e g = absurd (omega (arith, leb-true (suc least) sum g))
 
 module _ {A : Type 0} (G : Codes A) (cap : ℕ) where
-  -- a stream has so many bits at least if it begins with structure k of table t
+  -- a stream that begins with structure k of table t has no fewer bits
   abbrev pub bitsBy : A → List A → ℕ → ℕ → ℕ
   bitsBy v vs t k =
       length (G .word t k v) + costBehind cap (at (costsOf G cap vs .0)) (at (costsOf G cap (v ∷ vs) .0)) t (G .kind t k v)
@@ -104,7 +104,7 @@ module _ {A : Type 0} (G : Codes A) (cap : ℕ) where
       let least : ℕ = at (costsOf G cap (v ∷ vs) .0) t in
       allIn 0 (G .count t) (λ j. leb (cond (eqb j k) least (suc least)) (bitsBy v vs t j))
 
-  -- the stream of the structures at these places, one place for each code, and whether each of them is the only one
+  -- the stream whose codes are the structures at these places, and whether each of them alone makes the cost
   abbrev pub streamBy : List ℕ → List A → ℕ → List ℕ
   streamBy [] vs t = []
   streamBy (k ∷ ks) [] t = []
@@ -128,7 +128,7 @@ module _ {A : Type 0} (G : Codes A) (cap : ℕ) where
       (ht, p .1, refl)
   behind W v vs closed t k ht hk (leads u) e a = (W .onto t k u v ht hk e, closed, refl)
 
-  -- a stream that costs no more is that one
+  -- a stream that costs no more is the one by these places
   only-stream : Sound G → (ks : List ℕ) (vs : List A) (t : ℕ) → costsOf G cap vs .1 ≡ true → areOnly ks vs t ≡ true → There G t
       → (s : List ℕ) → Reads G t s vs → length s ≤ at (costsOf G cap vs .0) t → s ≡ streamBy ks vs t
   only-stream W [] [] t closed h ht s r l = sym (nothing-left G r)
@@ -152,20 +152,24 @@ module _ {A : Type 0} (G : Codes A) (cap : ℕ) where
 
 -- ---- the shortest stream
 
--- the tests: the tables are right, the costs are closed, this stream reads to the values and costs no more, and the structures at
--- these places are the only ones
+-- the bits at which costs stop here: more than a stream that is tested has
+abbrev pub enough : ℕ
+enough = 1000
+
+-- the tests: the tables are right; the costs are closed; the structures at these places alone make them; the stream costs no more, and
+-- reads to the values
 abbrev pub passesAll : List (List Structure) → List ℤ → List ℕ → List ℕ → Bool
 passesAll tables vs stream places =
-    every (tableRight (length tables)) tables && (costsOf (rule tables) 1000 vs .1 && (areOnly (rule tables) 1000 places vs 1
-    && (leb (length stream) (at (costsOf (rule tables) 1000 vs .0) 1) && (areBits stream && readsIt tables vs 1 stream))))
+    every (tableRight (length tables)) tables && (costsOf (rule tables) enough vs .1 && (areOnly (rule tables) enough places vs 1
+    && (leb (length stream) (at (costsOf (rule tables) enough vs .0) 1) && (areBits stream && readsIt tables vs 1 stream))))
 
 pub shortest-by : (tables : List (List Structure)) (vs : List ℤ) (stream places : List ℕ) → 1 ≤ length tables
     → passesAll tables vs stream places ≡ true → Shortest tables vs stream
 shortest-by tables vs stream places there h =
     let right = every (tableRight (length tables)) tables in
-    let closed = costsOf (rule tables) 1000 vs .1 in
-    let only = areOnly (rule tables) 1000 places vs 1 in
-    let least = at (costsOf (rule tables) 1000 vs .0) 1 in
+    let closed = costsOf (rule tables) enough vs .1 in
+    let only = areOnly (rule tables) enough places vs 1 in
+    let least = at (costsOf (rule tables) enough vs .0) 1 in
     let reads = areBits stream && readsIt tables vs 1 stream in
     let p = and-eq-true-iff right (closed && (only && (leb (length stream) least && reads))) .0 h in
     let q = and-eq-true-iff closed (only && (leb (length stream) least && reads)) .0 (p .1) in
@@ -175,12 +179,12 @@ shortest-by tables vs stream places there h =
     let short = leb-true (length stream) least (l .0) in
     let W = sound tables (p .0) there in
     let own : Stream tables vs stream = record { bits = r .0; reads = passes-reads tables vs 1 stream (r .1) } in
-    let is : (s : List ℕ) → Stream tables vs s → length s ≤ least → s ≡ streamBy (rule tables) 1000 places vs 1 =
-    λ s x e. only-stream (rule tables) 1000 W places vs 1 (q .0) (o .0) (omega arith, there) s (reads-of tables (p .0) there x) e in
+    let is : (s : List ℕ) → Stream tables vs s → length s ≤ least → s ≡ streamBy (rule tables) enough places vs 1 =
+    λ s x e. only-stream (rule tables) enough W places vs 1 (q .0) (o .0) (omega arith, there) s (reads-of tables (p .0) there x) e in
     record {
       stream = own;
       fewest = λ other x.
-          omega (arith, short, costs-low (rule tables) 1000 W vs (q .0) 1 other (omega arith, there) (reads-of tables (p .0) there x));
+          omega (arith, short, costs-low (rule tables) enough W vs (q .0) 1 other (omega arith, there) (reads-of tables (p .0) there x));
       smaller = λ other x e. inl (is stream own short ∙ sym (is other x (omega (arith, short, e))));
     }
 
