@@ -48,7 +48,7 @@ fn beat_by(s: &[u8], beat: &[i16], zones: usize, k: usize, n: usize) -> usize
     if n < entries::zone_begin(s, k) {
         return 32768;
     }
-    let place = n + wire::number16(s, 18) - entries::zone_fiducial(s, k);
+    let place = n + entries::fiducial_of(s) - entries::zone_fiducial(s, k);
     samples::raised(beat[place - 1])
 }
 
@@ -59,7 +59,7 @@ pub fn add_beat(s: &[u8], beat: &[i16], first: usize, room: &mut [i16]) -> u8
         × (length (now (room .exit)) ≡ length (now (room .entry))) ⌝ }
 {
     let n = room.len();
-    let zones = wire::number16(s, 20);
+    let zones = entries::qrs_count(s);
     let mut k = 0;
     let mut i = 0;
     while i < n {

@@ -91,3 +91,11 @@ pub fn turn(p: usize, code: usize) -> usize
     }
     r
 }
+
+// Two to the p.
+pub fn power(p: usize) -> usize
+    requires { ⌜ p ≤ 32 ⌝ }
+    ensures { λ r. ⌜ r ≡ 2 ^ p ⌝ }
+{
+    1usize << p
+}

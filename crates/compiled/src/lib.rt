@@ -31,7 +31,7 @@ fn lowest_of(base: usize, remainder: usize) -> usize
     if remainder == 0 {
         return (base + 32768) % 65536 + 98304;
     }
-    131072 - tables::power(remainder - 1)
+    131072 - bits::power(remainder - 1)
 }
 
 // The first value past those that it serves, 131,072 added.
@@ -42,7 +42,7 @@ fn beyond_of(base: usize, remainder: usize) -> usize
     if remainder == 0 {
         return (base + 32768) % 65536 + 98305;
     }
-    131072 + tables::power(remainder - 1)
+    131072 + bits::power(remainder - 1)
 }
 
 // A structure's form.
@@ -191,7 +191,7 @@ fn put_guess(tab: &mut [u32], t: usize, k: usize)
     }
     let mark = (k + 64 * f.prefix) as u32;
     let width = 8 - f.prefix;
-    let many = tables::power(width);
+    let many = bits::power(width);
     let from = f.word << width;
     if 256 - many < from {
         return;

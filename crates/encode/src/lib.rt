@@ -48,7 +48,7 @@ fn put_code(sink: Sink, out: &mut [u8], f: Form, xs: &[i16], order: usize, i: us
         return p;
     }
     let v = samples::value_at(xs, order, i);
-    p.put(out, v % tables::power(f.remainder), f.remainder)
+    p.put(out, v % bits::power(f.remainder), f.remainder)
 }
 
 // Where the walk of a stream has come to: what is written, the next sample, the table, and how many bits are left.

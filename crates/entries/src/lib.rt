@@ -4,9 +4,23 @@ ghost use mathlib.Core.Path.{_≡_};
 ghost use Prim.Native.Nat.{_+_, _*_, _<_, _≤_};
 ghost use lib.ListN.{length};
 ghost use Rattle.wire.specs.RuleWords.{allIn};
-ghost use Rattle.entries.specs.Section3.{firstSample, lastSample, sampleCount, leadRight, section3Right};
-ghost use Rattle.entries.specs.Sections5And6.{byteCountOf, bytesBefore, streamStart, streamOf, streamsRight, section6Right};
-ghost use Rattle.entries.specs.Section4.{qrsType, zoneBegin, qrsFiducial, zoneEnd, samplesInBeat, lastBefore, zoneRight, section4Right};
+ghost use Rattle.entries.specs.Section3.{leadCount, flagsOf, leadId, firstSample, lastSample, sampleCount, leadRight, section3Right};
+ghost use Rattle.entries.specs.Sections5And6.{stepOf, intervalOf, orderOf, bimodalOf, byteCountOf, bytesBefore, streamStart, streamOf, streamsRight, section6Right};
+ghost use Rattle.entries.specs.Section4.{beatLength, fiducialOf, qrsCount, qrsType, zoneBegin, qrsFiducial, zoneEnd, samplesInBeat, lastBefore, zoneRight, section4Right};
+
+// How many leads Section 3 says.
+pub fn lead_count(s: &[u8]) -> usize
+    ensures { λ r. ⌜ (r ≡ leadCount (now (s .entry))) × (r < 256) ⌝ }
+{
+    wire::byte(s, 16)
+}
+
+// The flags, bit 0 for a beat that was subtracted.
+pub fn flags_of(s: &[u8]) -> usize
+    ensures { λ r. ⌜ (r ≡ flagsOf (now (s .entry))) × (r < 256) ⌝ }
+{
+    wire::byte(s, 17)
+}
 
 // The first sample's number of lead k.
 pub fn first_sample(s: &[u8], k: usize) -> usize
@@ -22,6 +36,14 @@ pub fn last_sample(s: &[u8], k: usize) -> usize
     ensures { λ r. ⌜ (r ≡ lastSample (now (s .entry)) k) × (r < 4294967296) ⌝ }
 {
     wire::number32(s, 22 + 9 * k)
+}
+
+// The ID of lead k.
+pub fn lead_id(s: &[u8], k: usize) -> usize
+    requires { ⌜ k < 256 ⌝ }
+    ensures { λ r. ⌜ (r ≡ leadId (now (s .entry)) k) × (r < 256) ⌝ }
+{
+    wire::byte(s, 26 + 9 * k)
 }
 
 // How many samples lead k has.
@@ -84,7 +106,35 @@ pub fn section3_right(s: &[u8]) -> bool
     if !all_leads_right(s, n) {
         return false;
     }
-    tables::ends_by(s, 18 + 9 * n, 1)
+    wire::ends_by(s, 18 + 9 * n, 1)
+}
+
+// Sections 5 and 6: the step in nanovolts.
+pub fn step_of(s: &[u8]) -> usize
+    ensures { λ r. ⌜ (r ≡ stepOf (now (s .entry))) × (r < 65536) ⌝ }
+{
+    wire::number16(s, 16)
+}
+
+// The interval in microseconds.
+pub fn interval_of(s: &[u8]) -> usize
+    ensures { λ r. ⌜ (r ≡ intervalOf (now (s .entry))) × (r < 65536) ⌝ }
+{
+    wire::number16(s, 18)
+}
+
+// The difference order.
+pub fn order_of(s: &[u8]) -> usize
+    ensures { λ r. ⌜ (r ≡ orderOf (now (s .entry))) × (r < 256) ⌝ }
+{
+    wire::byte(s, 20)
+}
+
+// Section 6's byte for bimodal compression.
+pub fn bimodal_of(s: &[u8]) -> usize
+    ensures { λ r. ⌜ (r ≡ bimodalOf (now (s .entry))) × (r < 256) ⌝ }
+{
+    wire::byte(s, 21)
 }
 
 // How many bytes the stream of lead k has.
@@ -141,7 +191,7 @@ pub fn streams_right(s: &[u8], n: usize) -> bool
     if 2 < wire::byte(s, 20) {
         return false;
     }
-    tables::ends_by(s, stream_start(s, n, n), 1)
+    wire::ends_by(s, stream_start(s, n, n), 1)
 }
 
 // Section 6 keeps its rule, for n leads.
@@ -153,6 +203,27 @@ pub fn section6_right(s: &[u8], n: usize) -> bool
         return false;
     }
     streams_right(s, n)
+}
+
+// Section 4: the beat's length in ms.
+pub fn beat_length(s: &[u8]) -> usize
+    ensures { λ r. ⌜ (r ≡ beatLength (now (s .entry))) × (r < 65536) ⌝ }
+{
+    wire::number16(s, 16)
+}
+
+// The fiducial F.
+pub fn fiducial_of(s: &[u8]) -> usize
+    ensures { λ r. ⌜ (r ≡ fiducialOf (now (s .entry))) × (r < 65536) ⌝ }
+{
+    wire::number16(s, 18)
+}
+
+// How many QRS complexes there are.
+pub fn qrs_count(s: &[u8]) -> usize
+    ensures { λ r. ⌜ (r ≡ qrsCount (now (s .entry))) × (r < 65536) ⌝ }
+{
+    wire::number16(s, 20)
 }
 
 // The type of zone k.

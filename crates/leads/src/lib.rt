@@ -97,7 +97,7 @@ fn stream_into(rec: &[u8], section: usize, k: usize, tab: &[u32], room: &mut [i1
 {
     let s = pointers::section_of(rec, section);
     let stream = entries::stream_of(s, rules::leads_of(rec), k);
-    traces::rebuild(stream, tab, wire::byte(s, 20), room)
+    traces::rebuild(stream, tab, entries::order_of(s), room)
 }
 
 // The beat is rebuilt, then the residual in the room, and the beat is added to it.
@@ -255,10 +255,10 @@ fn lead_at(rec: &[u8], k: usize) -> Lead
     let t = pointers::section_of(rec, 6);
     Lead {
         refusal: 0,
-        id: wire::byte(s, 26 + 9 * k) as u8,
-        flags: wire::byte(s, 17) as u8,
-        step: wire::number16(t, 16) as u16,
-        interval: wire::number16(t, 18) as u16,
+        id: entries::lead_id(s, k) as u8,
+        flags: entries::flags_of(s) as u8,
+        step: entries::step_of(t) as u16,
+        interval: entries::interval_of(t) as u16,
         first: entries::first_sample(s, k) as u32,
         count: entries::sample_count(s, k) as u32,
     }
@@ -273,11 +273,11 @@ fn entry_at(rec: &[u8], k: usize) -> Entry
     let t = pointers::section_of(rec, 6);
     Entry {
         refusal: 0,
-        id: wire::byte(s, 26 + 9 * k) as u8,
-        flags: wire::byte(s, 17) as u8,
-        order: wire::byte(t, 20) as u8,
-        step: wire::number16(t, 16) as u16,
-        interval: wire::number16(t, 18) as u16,
+        id: entries::lead_id(s, k) as u8,
+        flags: entries::flags_of(s) as u8,
+        order: entries::order_of(t) as u8,
+        step: entries::step_of(t) as u16,
+        interval: entries::interval_of(t) as u16,
         first: entries::first_sample(s, k) as u32,
         last: entries::last_sample(s, k) as u32,
         leads: rules::leads_of(rec) as u32,

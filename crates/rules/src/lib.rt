@@ -2,9 +2,8 @@
 // smallest of 1 to 10 that applies. All leads' entries are judged, whatever place is asked for.
 ghost use mathlib.Core.Path.{_≡_};
 ghost use Prim.Native.Nat.{_<_, _≤_};
-ghost use Rattle.wire.specs.Numbers.{numberAt};
 ghost use Rattle.pointers.specs.Pointers.{sectionOf};
-ghost use Rattle.entries.specs.Sections5And6.{intervalOf};
+ghost use Rattle.entries.specs.Sections5And6.{stepOf, intervalOf};
 ghost use Rattle.rules.specs.Rows.{rowKept};
 ghost use Rattle.rules.specs.LeadRules.{tablesRight, leadCountOf, beatSubtracted, beatSampleCount, beatRight, section6Kept, sections3To6Right, stepsAgree, agrees, hasLead, leadRefusal};
 
@@ -22,7 +21,7 @@ pub fn tables_right(rec: &[u8]) -> bool
 pub fn leads_of(rec: &[u8]) -> usize
     ensures { λ r. ⌜ (r ≡ leadCountOf (now (rec .entry))) × (r < 256) ⌝ }
 {
-    wire::byte(pointers::section_of(rec, 3), 16)
+    entries::lead_count(pointers::section_of(rec, 3))
 }
 
 // A reference beat was subtracted.
@@ -32,7 +31,7 @@ pub fn has_beat(rec: &[u8]) -> bool
     if !pointers::is_present(rec, 3) {
         return false;
     }
-    if wire::byte(pointers::section_of(rec, 3), 17) % 2 != 1 {
+    if entries::flags_of(pointers::section_of(rec, 3)) % 2 != 1 {
         return false;
     }
     true
@@ -43,8 +42,8 @@ pub fn beat_sample_count(rec: &[u8]) -> usize
     requires { ⌜ 0 < intervalOf (sectionOf (now rec) 5) ⌝ }
     ensures { λ r. ⌜ (r ≡ beatSampleCount (now (rec .entry))) × (r ≤ 65535000) ⌝ }
 {
-    let ms = wire::number16(pointers::section_of(rec, 4), 16);
-    let interval = wire::number16(pointers::section_of(rec, 5), 18);
+    let ms = entries::beat_length(pointers::section_of(rec, 4));
+    let interval = entries::interval_of(pointers::section_of(rec, 5));
     entries::samples_in_beat(ms, interval)
 }
 
@@ -99,12 +98,19 @@ pub fn leads_right(rec: &[u8]) -> bool
     rhythm_right(rec, n)
 }
 
-// The number in two bytes at a place of section k.
-fn number_in(rec: &[u8], k: usize, at: usize) -> usize
-    requires { ⌜ k < 64 ⌝ }
-    ensures { λ r. ⌜ (r ≡ numberAt 2 (sectionOf (now (rec .entry)) k) at) × (r < 65536) ⌝ }
+// The step of Section 5 or 6, and its interval.
+fn step_in(rec: &[u8], section: usize) -> usize
+    requires { ⌜ section < 64 ⌝ }
+    ensures { λ r. ⌜ r ≡ stepOf (sectionOf (now (rec .entry)) section) ⌝ }
 {
-    wire::number16(pointers::section_of(rec, k), at)
+    entries::step_of(pointers::section_of(rec, section))
+}
+
+fn interval_in(rec: &[u8], section: usize) -> usize
+    requires { ⌜ section < 64 ⌝ }
+    ensures { λ r. ⌜ r ≡ intervalOf (sectionOf (now (rec .entry)) section) ⌝ }
+{
+    entries::interval_of(pointers::section_of(rec, section))
 }
 
 // Steps and intervals agree where a beat was subtracted.
@@ -114,10 +120,10 @@ fn steps_agree(rec: &[u8]) -> bool
     if !has_beat(rec) {
         return true;
     }
-    if number_in(rec, 5, 16) != number_in(rec, 6, 16) {
+    if step_in(rec, 5) != step_in(rec, 6) {
         return false;
     }
-    if number_in(rec, 5, 18) != number_in(rec, 6, 18) {
+    if interval_in(rec, 5) != interval_in(rec, 6) {
         return false;
     }
     true
@@ -130,7 +136,7 @@ pub fn is_agreed(rec: &[u8]) -> bool
     if !pointers::is_present(rec, 6) {
         return true;
     }
-    if wire::byte(pointers::section_of(rec, 6), 21) != 0 {
+    if entries::bimodal_of(pointers::section_of(rec, 6)) != 0 {
         return false;
     }
     steps_agree(rec)

@@ -61,7 +61,7 @@ fn rank(tab: &[u32], t: usize, k: usize) -> usize
     ensures { λ r. ⌜ r ≡ rankIn (now (tab .entry)) t k ⌝ }
 {
     let f = compiled::form_at(tab, t - 1, k);
-    f.word * tables::power(32 - f.prefix)
+    f.word * bits::power(32 - f.prefix)
 }
 
 // Of structure k and another, or none, the one with the smaller word.

@@ -4,7 +4,7 @@ ghost use Prim.Native.Nat.{_+_, _*_, _^_, _<_, _≤_};
 ghost use lib.ListN.{length, getD};
 ghost use Rattle.tables.specs.Structures.{structureAt, structuresAt, modeRight, structureRight, apart, prefixFree, noStructure};
 ghost use Rattle.tables.specs.Default.{defaultTable};
-ghost use Rattle.wire.specs.RuleWords.{every, endsBy};
+ghost use Rattle.wire.specs.RuleWords.{every};
 ghost use Rattle.tables.specs.Section2.{isDefault, tableCount, tableAt, afterTable, tablesFrom, afterTables, tableRight, section2Right};
 
 // A code structure; the base value without its sign.
@@ -28,14 +28,6 @@ pub fn structure_at(s: &[u8], o: usize) -> Structure
         base: wire::number16(s, o + 3),
         code: wire::number32(s, o + 5),
     }
-}
-
-// Two to the p.
-pub fn power(p: usize) -> usize
-    requires { ⌜ p ≤ 32 ⌝ }
-    ensures { λ r. ⌜ r ≡ 2 ^ p ⌝ }
-{
-    1usize << p
 }
 
 // The mode is a value's or a switch's, and a switch leads to a table that exists.
@@ -77,7 +69,7 @@ fn structure_right(c: Structure, tables: usize) -> bool
     if 16 < c.whole - p {
         return false;
     }
-    if power(p) <= c.code {
+    if bits::power(p) <= c.code {
         return false;
     }
     mode_right(c, tables)
@@ -211,20 +203,6 @@ fn after_tables(s: &[u8], o: usize, n: usize) -> usize
     from
 }
 
-// The data end at a place, with at most `spare` bytes behind.
-pub fn ends_by(s: &[u8], end: usize, spare: usize) -> bool
-    requires { ⌜ (end < 8388608) × (spare ≤ 1) ⌝ }
-    ensures { λ r. ⌜ r ≡ endsBy spare (now (s .entry)) end ⌝ }
-{
-    if s.len() < end {
-        return false;
-    }
-    if end + spare < s.len() {
-        return false;
-    }
-    true
-}
-
 // 19999: the default table alone.
 pub fn is_default(s: &[u8], at: usize) -> bool
     ensures { λ r. ⌜ r ≡ isDefault (now (s .entry)) at ⌝ }
@@ -241,7 +219,7 @@ pub fn section2_right(s: &[u8], at: usize, spare: usize) -> bool
     ensures { λ r. ⌜ r ≡ section2Right spare (now (s .entry)) at ⌝ }
 {
     if is_default(s, at) {
-        return ends_by(s, at + 2, spare);
+        return wire::ends_by(s, at + 2, spare);
     }
     let n = wire::number16(s, at);
     if n < 1 {
@@ -253,7 +231,7 @@ pub fn section2_right(s: &[u8], at: usize, spare: usize) -> bool
     if !all_tables_right(s, at + 2, n, n) {
         return false;
     }
-    ends_by(s, after_tables(s, at + 2, n), spare)
+    wire::ends_by(s, after_tables(s, at + 2, n), spare)
 }
 
 const DEFAULT: [Structure; 19] = [

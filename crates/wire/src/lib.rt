@@ -6,6 +6,7 @@ ghost use Prim.Native.Nat.{_+_, _^_, _≤_, _<_};
 ghost use lib.ListN.{length, take, drop};
 ghost use Rattle.wire.specs.Numbers.{byteAt, numberAt, bytesOf, part};
 ghost use Rattle.wire.specs.Check.{crcBit, crcByte, crcOf};
+ghost use Rattle.wire.specs.RuleWords.{endsBy};
 
 // The byte at a place, as a number.
 pub fn byte(s: &[u8], i: usize) -> usize
@@ -51,6 +52,20 @@ pub fn part_of<'a>(s: &'a [u8], start: usize, end: usize) -> &'a [u8]
         return &s[start..];
     }
     &s[start..end]
+}
+
+// Bytes end at a place, with at most `spare` bytes behind.
+pub fn ends_by(s: &[u8], end: usize, spare: usize) -> bool
+    requires { ⌜ (end < 8388608) × (spare ≤ 1) ⌝ }
+    ensures { λ r. ⌜ r ≡ endsBy spare (now (s .entry)) end ⌝ }
+{
+    if s.len() < end {
+        return false;
+    }
+    if end + spare < s.len() {
+        return false;
+    }
+    true
 }
 
 // A number of two bytes is put at a place.

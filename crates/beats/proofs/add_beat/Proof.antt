@@ -18,13 +18,13 @@ Inv-loop s beat first room₀ n zones k₀ i₀ room k i = Reached s beat first 
 abbrev μ-loop : tie.MeasureT-loop
 μ-loop s beat first room₀ n zones k₀ i₀ room k i = n - i
 
-number16-requires : tie.Need-number16-requires Inv-loop μ-loop
-number16-requires c κs = search needs
+qrs-count-requires : tie.Need-qrs-count-requires Inv-loop μ-loop
+qrs-count-requires c κs = search needs
 
 loop-holds : tie.Need-loop-holds Inv-loop μ-loop
 loop-holds c =
     let a = c .before .before .args in
-    reached-none (a .s .now) (a .beat .now) (a .first) (a .room .now) (c .number16 .result) (c .number16 .ensures .0)
+    reached-none (a .s .now) (a .beat .now) (a .first) (a .room .now) (c .qrs-count .result) (c .qrs-count .ensures .0)
 
 add-zone-for : tie.Need-add-zone-for Inv-loop μ-loop
 add-zone-for c = search needs
@@ -51,7 +51,7 @@ beat-by-requires : tie.Need-beat-by-requires Inv-loop μ-loop
 beat-by-requires c κs =
     let p = c .before .before .before .before .before .before .before in
     let found = c .before .before .zone-for .ensures in
-    (p .pre .0, c .before .before .before .before .before .number16 .ensures .0, found .0, omega arith, found .2)
+    (p .pre .0, c .before .before .before .before .before .qrs-count .ensures .0, found .0, omega arith, found .2)
 
 add-y : tie.Need-add-y Inv-loop μ-loop
 add-y c = search needs
@@ -61,7 +61,7 @@ abbrev Turned : tie.After-beat-by Inv-loop μ-loop → Type 0
 Turned c =
     let l = c .before .before .before .before .before .loop in
     let a = c .before .before .before .before .before .before .before .before .args in
-    let zones = c .before .before .before .before .before .before .number16 .result in
+    let zones = c .before .before .before .before .before .before .qrs-count .result in
     Turn (a .s .now) (a .beat .now) (a .first) (a .room .now) zones (l .room) (l .k) (l .i)
     (c .before .before .before .zone-for .result) (c .before .raised .result) (c .beat-by .result)
 
@@ -123,7 +123,7 @@ add-beat-spec =
     (tie.spec
     Inv-loop
     μ-loop
-    number16-requires
+    qrs-count-requires
     loop-holds
     add-zone-for
     zone-for-requires

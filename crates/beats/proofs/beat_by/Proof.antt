@@ -35,8 +35,8 @@ returns-2 c =
     place-before (length (a .beat .now)) (a .s .now) (a .zones) (a .k) (a .n) (p .pre .0) (p .pre .1) h (p .pre .4 h .0) (omega arith) in
     (rw none, omega arith)
 
-number16-requires : tie.Need-number16-requires
-number16-requires c κs = search needs
+fiducial-of-requires : tie.Need-fiducial-of-requires
+fiducial-of-requires c κs = search needs
 
 add-place : tie.Need-add-place
 add-place c = search needs
@@ -84,7 +84,7 @@ returns-3 c =
     let beat = a .beat .now in
     let h : a .k < a .zones = omega arith in
     let z = here found in
-    let place = a .n + found .before .number16 .result - found .zone-fiducial .result in
+    let place = a .n + found .before .fiducial-of .result - found .zone-fiducial .result in
     let e : a .n + fiducialOf s - qrsFiducial s (a .k) ≡ place = omega arith in
     let in-it = place-in (length beat) s (a .zones) (a .k) (a .n) (p .pre .0) (p .pre .1) h (z .1) (omega arith) (z .2) in
     let x = getD beat (place - 1) (pos 0) in
@@ -99,7 +99,7 @@ beat-by-spec =
     returns
     zone-begin-requires
     returns-2
-    number16-requires
+    fiducial-of-requires
     add-place
     zone-fiducial-requires
     sub-place

@@ -14,38 +14,32 @@ section-of-requires c κs = search needs
 section-of-requires-2 : tie.Need-section-of-requires-2
 section-of-requires-2 c κs = search needs
 
-mul-byte : tie.Need-mul-byte
-mul-byte c = search needs
-
-add-byte : tie.Need-add-byte
-add-byte c = search needs
-
-byte-requires : tie.Need-byte-requires
-byte-requires c κs = search needs
+lead-id-requires : tie.Need-lead-id-requires
+lead-id-requires c κs = search needs
 
 cast-t8 : tie.Need-cast-t8
 cast-t8 c = search needs
 
-byte-requires-2 : tie.Need-byte-requires-2
-byte-requires-2 c κs = search needs
+flags-of-requires : tie.Need-flags-of-requires
+flags-of-requires c κs = search needs
 
 cast-t10 : tie.Need-cast-t10
 cast-t10 c = search needs
 
-byte-requires-3 : tie.Need-byte-requires-3
-byte-requires-3 c κs = search needs
+order-of-requires : tie.Need-order-of-requires
+order-of-requires c κs = search needs
 
 cast-t12 : tie.Need-cast-t12
 cast-t12 c = search needs
 
-number16-requires : tie.Need-number16-requires
-number16-requires c κs = search needs
+step-of-requires : tie.Need-step-of-requires
+step-of-requires c κs = search needs
 
 cast-t14 : tie.Need-cast-t14
 cast-t14 c = search needs
 
-number16-requires-2 : tie.Need-number16-requires-2
-number16-requires-2 c κs = search needs
+interval-of-requires : tie.Need-interval-of-requires
+interval-of-requires c κs = search needs
 
 cast-t16 : tie.Need-cast-t16
 cast-t16 c = search needs
@@ -80,11 +74,11 @@ returns c =
     let three = c .before .before .before .before .before .before .before .before .before .before .section-of .ensures in
     let six = c .before .before .before .before .before .before .before .before .before .section-of2 .ensures in
     rw (
-      c .before .before .before .before .before .before .before .before .byte .ensures .0 ∙ ap (λ (s : List ℕ). leadId s (a .k)) three,
-      c .before .before .before .before .before .before .before .byte2 .ensures .0 ∙ ap (λ (s : List ℕ). flagsOf s) three,
-      c .before .before .before .before .before .before .byte3 .ensures .0 ∙ ap (λ (s : List ℕ). orderOf s) six,
-      c .before .before .before .before .before .number16 .ensures .0 ∙ ap (λ (s : List ℕ). stepOf s) six,
-      c .before .before .before .before .number162 .ensures .0 ∙ ap (λ (s : List ℕ). intervalOf s) six,
+      c .before .before .before .before .before .before .before .before .lead-id .ensures .0 ∙ ap (λ (s : List ℕ). leadId s (a .k)) three,
+      c .before .before .before .before .before .before .before .flags-of .ensures .0 ∙ ap (λ (s : List ℕ). flagsOf s) three,
+      c .before .before .before .before .before .before .order-of .ensures .0 ∙ ap (λ (s : List ℕ). orderOf s) six,
+      c .before .before .before .before .before .step-of .ensures .0 ∙ ap (λ (s : List ℕ). stepOf s) six,
+      c .before .before .before .before .interval-of .ensures .0 ∙ ap (λ (s : List ℕ). intervalOf s) six,
       c .before .before .before .first-sample .ensures .0 ∙ ap (λ (s : List ℕ). firstSample s (a .k)) three,
       c .before .before .last-sample .ensures .0 ∙ ap (λ (s : List ℕ). lastSample s (a .k)) three,
       c .before .leads-of .ensures .0,
@@ -97,17 +91,15 @@ entry-at-spec =
     (tie.spec
     section-of-requires
     section-of-requires-2
-    mul-byte
-    add-byte
-    byte-requires
+    lead-id-requires
     cast-t8
-    byte-requires-2
+    flags-of-requires
     cast-t10
-    byte-requires-3
+    order-of-requires
     cast-t12
-    number16-requires
+    step-of-requires
     cast-t14
-    number16-requires-2
+    interval-of-requires
     cast-t16
     first-sample-requires
     cast-t18

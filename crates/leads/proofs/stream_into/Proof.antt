@@ -20,8 +20,8 @@ leads-of-requires c κs = search needs
 stream-of-requires : tie.Need-stream-of-requires
 stream-of-requires c κs = search needs
 
-byte-requires : tie.Need-byte-requires
-byte-requires c κs = search needs
+order-of-requires : tie.Need-order-of-requires
+order-of-requires c κs = search needs
 
 rebuild-requires : tie.Need-rebuild-requires
 rebuild-requires c κs = search needs
@@ -39,7 +39,7 @@ returns c =
     let leads = c .before .before .before .before .before .leads-of .ensures .0 in
     let own = c .before .before .before .before .stream-of .ensures .0 in
     let stream = own ∙ ap₂ (λ (m : ℕ) (l : List ℕ). streamOf m l (d .args .k)) leads s in
-    let order = c .before .before .before .byte .ensures .0 ∙ ap (λ (l : List ℕ). orderOf l) s in (
+    let order = c .before .before .before .order-of .ensures .0 ∙ ap (λ (l : List ℕ). orderOf l) s in (
       c .before .rebuild .ensures .0 (tablesOf r) (d .pre .0)
           ∙ ap₂ (λ (o : ℕ) (l : List ℕ). rebuild (tablesOf r) o n (bitsIn l)) order stream,
       c .before .rebuild .ensures .1,
@@ -52,7 +52,7 @@ stream-into-spec =
     section-of-requires
     leads-of-requires
     stream-of-requires
-    byte-requires
+    order-of-requires
     rebuild-requires
     same-length
     returns)

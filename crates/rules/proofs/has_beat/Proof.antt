@@ -12,9 +12,9 @@ use Rattle.rules.proofs.has_beat.Statement.{statement}
 use Rattle.rules.proofs.has_beat.Tie as tie
 
 -- the bit that is tested
-flag : (c : tie.After-byte) →
-    c .byte .result % 2 ≡ flagsOf (sectionOf (c .before .before .before .before .before .args .rec .now) 3) % 2
-flag c = ap (λ (n : ℕ). n % 2) (c .byte .ensures .0 ∙ ap (λ (s : List ℕ). flagsOf s) (c .before .section-of .ensures))
+flag : (c : tie.After-flags-of) →
+    c .flags-of .result % 2 ≡ flagsOf (sectionOf (c .before .before .before .before .before .args .rec .now) 3) % 2
+flag c = ap (λ (n : ℕ). n % 2) (c .flags-of .ensures .0 ∙ ap (λ (s : List ℕ). flagsOf s) (c .before .section-of .ensures))
 
 is-present-requires : tie.Need-is-present-requires
 is-present-requires c κs = search needs
@@ -26,8 +26,8 @@ returns c = simp (broken (c .before .is-present .ensures) (c .if1 .taken))
 section-of-requires : tie.Need-section-of-requires
 section-of-requires c κs = search needs
 
-byte-requires : tie.Need-byte-requires
-byte-requires c κs = search needs
+flags-of-requires : tie.Need-flags-of-requires
+flags-of-requires c κs = search needs
 
 returns-2 : tie.Need-returns-2
 unfolding beatSubtracted
@@ -42,4 +42,4 @@ returns-3 c =
 pub has-beat-spec : {M : Type 1} → statement M
 has-beat-spec =
     tie.close
-    (tie.spec is-present-requires returns section-of-requires byte-requires returns-2 returns-3)
+    (tie.spec is-present-requires returns section-of-requires flags-of-requires returns-2 returns-3)

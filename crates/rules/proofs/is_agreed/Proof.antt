@@ -11,8 +11,8 @@ use Rattle.rules.proofs.is_agreed.Statement.{statement}
 use Rattle.rules.proofs.is_agreed.Tie as tie
 
 -- the byte that is tested
-bimodal : (c : tie.After-byte) → c .byte .result ≡ bimodalOf (sectionOf (c .before .before .before .before .before .args .rec .now) 6)
-bimodal c = c .byte .ensures .0 ∙ ap (λ (s : List ℕ). bimodalOf s) (c .before .section-of .ensures)
+bimodal : (c : tie.After-bimodal-of) → c .bimodal-of .result ≡ bimodalOf (sectionOf (c .before .before .before .before .before .args .rec .now) 6)
+bimodal c = c .bimodal-of .ensures .0 ∙ ap (λ (s : List ℕ). bimodalOf s) (c .before .section-of .ensures)
 
 is-present-requires : tie.Need-is-present-requires
 is-present-requires c κs = search needs
@@ -24,8 +24,8 @@ returns c = simp (broken (c .before .is-present .ensures) (c .if1 .taken))
 section-of-requires : tie.Need-section-of-requires
 section-of-requires c κs = search needs
 
-byte-requires : tie.Need-byte-requires
-byte-requires c κs = search needs
+bimodal-of-requires : tie.Need-bimodal-of-requires
+bimodal-of-requires c κs = search needs
 
 returns-2 : tie.Need-returns-2
 unfolding agrees
@@ -51,7 +51,7 @@ is-agreed-spec =
     is-present-requires
     returns
     section-of-requires
-    byte-requires
+    bimodal-of-requires
     returns-2
     steps-agree-requires
     returns-3)

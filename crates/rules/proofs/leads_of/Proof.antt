@@ -10,11 +10,11 @@ use Rattle.rules.proofs.leads_of.Tie as tie
 section-of-requires : tie.Need-section-of-requires
 section-of-requires c κs = search needs
 
-byte-requires : tie.Need-byte-requires
-byte-requires c κs = search needs
+lead-count-requires : tie.Need-lead-count-requires
+lead-count-requires c κs = search needs
 
 returns : tie.Need-returns
-returns c = (c .byte .ensures .0 ∙ ap (λ (s : List ℕ). leadCount s) (c .before .section-of .ensures), c .byte .ensures .1)
+returns c = (c .lead-count .ensures .0 ∙ ap (λ (s : List ℕ). leadCount s) (c .before .section-of .ensures), c .lead-count .ensures .1)
 
 pub leads-of-spec : {M : Type 1} → statement M
-leads-of-spec = tie.close (tie.spec section-of-requires byte-requires returns)
+leads-of-spec = tie.close (tie.spec section-of-requires lead-count-requires returns)

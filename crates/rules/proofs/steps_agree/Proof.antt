@@ -13,11 +13,11 @@ returns : tie.Need-returns
 unfolding stepsAgree
 returns c = simp (broken (c .before .has-beat .ensures) (c .if1 .taken))
 
-number-in-requires : tie.Need-number-in-requires
-number-in-requires c κs = search needs
+step-in-requires : tie.Need-step-in-requires
+step-in-requires c κs = search needs
 
-number-in-requires-2 : tie.Need-number-in-requires-2
-number-in-requires-2 c κs = search needs
+step-in-requires-2 : tie.Need-step-in-requires-2
+step-in-requires-2 c κs = search needs
 
 returns-2 : tie.Need-returns-2
 unfolding stepsAgree
@@ -25,14 +25,14 @@ returns-2 c =
     let d1 = c .before .before .before in
     simp (
       kept (d1 .before .has-beat .ensures) (d1 .if1 .left),
-      differ (c .before .before .number-in .ensures .0) (c .before .number-in2 .ensures .0) (c .if2 .taken),
+      differ (c .before .before .step-in .ensures) (c .before .step-in2 .ensures) (c .if2 .taken),
     )
 
-number-in-requires-3 : tie.Need-number-in-requires-3
-number-in-requires-3 c κs = search needs
+interval-in-requires : tie.Need-interval-in-requires
+interval-in-requires c κs = search needs
 
-number-in-requires-4 : tie.Need-number-in-requires-4
-number-in-requires-4 c κs = search needs
+interval-in-requires-2 : tie.Need-interval-in-requires-2
+interval-in-requires-2 c κs = search needs
 
 returns-3 : tie.Need-returns-3
 unfolding stepsAgree
@@ -40,7 +40,7 @@ returns-3 c =
     let d1 = c .before .before .before .before .before .before in
     simp (
       kept (d1 .before .has-beat .ensures) (d1 .if1 .left),
-      differ (c .before .before .number-in3 .ensures .0) (c .before .number-in4 .ensures .0) (c .if3 .taken),
+      differ (c .before .before .interval-in .ensures) (c .before .interval-in2 .ensures) (c .if3 .taken),
       and-false,
     )
 
@@ -51,8 +51,8 @@ returns-4 c =
     let d1 = d2 .before .before .before in
     simp (
       kept (d1 .before .has-beat .ensures) (d1 .if1 .left),
-      same (d2 .before .before .number-in .ensures .0) (d2 .before .number-in2 .ensures .0) (d2 .if2 .left),
-      same (c .before .before .number-in3 .ensures .0) (c .before .number-in4 .ensures .0) (c .if3 .left),
+      same (d2 .before .before .step-in .ensures) (d2 .before .step-in2 .ensures) (d2 .if2 .left),
+      same (c .before .before .interval-in .ensures) (c .before .interval-in2 .ensures) (c .if3 .left),
     )
 
 pub steps-agree-spec : {M : Type 1} → statement M
@@ -61,10 +61,10 @@ steps-agree-spec =
     (tie.spec
     has-beat-requires
     returns
-    number-in-requires
-    number-in-requires-2
+    step-in-requires
+    step-in-requires-2
     returns-2
-    number-in-requires-3
-    number-in-requires-4
+    interval-in-requires
+    interval-in-requires-2
     returns-3
     returns-4)

@@ -4,8 +4,8 @@ use native.Mathlib.Nat.{one-mul}
 use native.Mathlib.Omega.{arith}
 use lib.Pow.{shl-exact}
 use borrow.Author.Needs.{needs}
-use Rattle.tables.proofs.power.Statement.{statement}
-use Rattle.tables.proofs.power.Tie as tie
+use Rattle.bits.proofs.power.Statement.{statement}
+use Rattle.bits.proofs.power.Tie as tie
 
 shl-result : tie.Need-shl-result
 shl-result c = search needs

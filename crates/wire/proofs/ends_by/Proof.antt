@@ -1,9 +1,9 @@
 -- The two tests are the definition's, in its order.
 use borrow.Author.Needs.{needs}
 use borrow.Author.Tests.{le-leb, lt-leb}
 use Rattle.wire.specs.RuleWords.{endsBy}
-use Rattle.tables.proofs.ends_by.Statement.{statement}
-use Rattle.tables.proofs.ends_by.Tie as tie
+use Rattle.wire.proofs.ends_by.Statement.{statement}
+use Rattle.wire.proofs.ends_by.Tie as tie
 
 returns : tie.Need-returns
 unfolding endsBy
