@@ -5,3 +5,9 @@ pub mod Pointed
 pub mod Frame
 pub mod Opened
 pub mod Shown
+pub mod Written
+pub mod Disjoint
+pub mod Placed
+pub mod Accepted
+pub mod Back
+pub mod Chosen

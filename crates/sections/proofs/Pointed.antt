@@ -24,7 +24,7 @@ pub record Pointed (r : List ℕ) (k place id : ℕ) (s : List ℕ) : Type 0 whe
   pub index : indexOf r k ≡ indexFor s place
   pub there : Stands r place s
 
-index-given : (s : List ℕ) (place : ℕ) → 0 < length s → indexFor s place ≡ 1 + place
+pub index-given : (s : List ℕ) (place : ℕ) → 0 < length s → indexFor s place ≡ 1 + place
 unfolding indexFor
 index-given [] place h = absurd (omega arith)
 index-given (b ∷ s) place h = refl
