@@ -20,7 +20,7 @@ use Rattle.sections.specs.Sections.{Section, nth, usable, pointerCount, 
 use Rattle.sections.proofs.Parts.{stands-number, stands-check, checked-holds}
 use Rattle.sections.proofs.Sound.{Sound, usable-cases}
 use Rattle.sections.proofs.Listed.{every-nth, place-least, place-apart, idBefore, rising-at}
-use Rattle.sections.proofs.Pointed.{Pointed, absent-placed, absent-check, absent-apart, ends-before}
+use Rattle.sections.proofs.Pointed.{absent-placed, absent-check, absent-apart, ends-before}
 use Rattle.sections.proofs.Pointed.{pointed-present, pointed-start, pointed-end, pointed-section, pointed-placed, pointed-check}
 use Rattle.sections.proofs.Frame as F
 

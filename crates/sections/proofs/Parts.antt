@@ -11,7 +11,7 @@ use lib.Seq.{length-take-le, drop-drop}
 use Rattle.wire.specs.Numbers.{numberAt, bytesOf, part}
 use Rattle.wire.specs.Check.{crcOf}
 use Rattle.wire.proofs.Laws.{length-bytesOf, crc-small}
-use Rattle.wire.proofs.Places.{Stands, stands-part, stands-byte, stands-cut, stands-inner, stands-first, stands-behind, stands-whole}
+use Rattle.wire.proofs.Places.{Stands, stands-part, stands-byte, stands-cut, stands-first, stands-behind, stands-whole}
 use Rattle.wire.proofs.Places.{stands-at, stands-written}
 use Rattle.record.specs.RecordRules.{holdsCheck}
 use Rattle.layout.specs.Layout.{checked}

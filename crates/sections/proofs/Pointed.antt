@@ -1,7 +1,7 @@
 -- A section that stands where its pointer says is what the reader cuts out; where it is sound, it keeps the rules of its place, its header
 -- and its check. An absent one breaks none. Assumes nothing.
 use Prim.Native.Nat.{ℕ, _+_, _-_, _%_, _≤_, _<_}
-use mathlib.Core.Path.{_≡_, refl, ap, _∙_}
+use mathlib.Core.Path.{_≡_, refl, sym, ap, _∙_}
 use mathlib.Core.Bool.{true, false, not, or-true}
 use mathlib.Core.List.{List, [], _∷_}
 use native.Mathlib.Omega.{arith}
@@ -10,7 +10,7 @@ use lib.Dec.{eqb}
 use lib.ListN.{length}
 use Rattle.wire.specs.Numbers.{part}
 use Rattle.wire.specs.RuleWords.{allIn}
-use Rattle.wire.proofs.Places.{Stands, stands-part, stands-end}
+use Rattle.wire.proofs.Places.{Stands, stands-part, stands-end, stands-at}
 use Rattle.pointers.specs.Pointers.{section0Length, idOf, lengthOf, indexOf, present, startOf, endOf, sectionOf}
 use Rattle.record.specs.RecordRules.{placeRight, headerRepeats, sectionsApart, placedRight, sectionCheckRight}
 use Rattle.sections.specs.Sections.{indexFor}
@@ -61,6 +61,9 @@ module _ {r : List ℕ} {k place id : ℕ} {s : List ℕ} (p : Pointed r k place
 
   pub pointed-start : 0 < length s → startOf r k ≡ place
   pointed-start h = omega (arith, p .index, index-given s place h)
+
+  pub pointed-there : 0 < length s → Stands r (startOf r k) s
+  pointed-there h = stands-at (sym (pointed-start h)) (p .there)
 
   pub pointed-end : 0 < length s → endOf r k ≡ place + length s
   pointed-end h = rw (pointed-start h, p .size)

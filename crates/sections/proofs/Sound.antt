@@ -1,7 +1,7 @@
 -- A sound section: its rules one by one. One that is made new is sound, and its parts stand where they should. Assumes nothing.
 use Prim.Native.Nat.{ℕ, _+_, _%_, _≤_, _<_}
 use mathlib.Core.Path.{_≡_, refl, sym, ap, _∙_}
-use mathlib.Core.Bool.{Bool, true, false, _&&_, or-true, and-eq-true-iff}
+use mathlib.Core.Bool.{Bool, true, false, or-true, and-eq-true-iff}
 use mathlib.Core.List.{List, _∷_, _++_}
 use mathlib.Core.Logic.{_⊎_, inl, inr}
 use native.Mathlib.Omega.{arith}
