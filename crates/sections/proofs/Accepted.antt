@@ -1,5 +1,4 @@
--- The sections of an accepted record fit, so that they may be laid out again: what is laid out is never longer than the record was. Assumes
--- nothing.
+-- The sections of an accepted record fit: laid out again they make a record, which is never longer. Assumes nothing.
 use Prim.Native.Nat.{ℕ, zero, suc, _+_, _-_, _*_, _≤_, _<_}
 use mathlib.Core.Path.{_≡_, refl, ap}
 use mathlib.Core.Bool.{true, and-eq-true-iff}
@@ -38,7 +37,7 @@ nth-section r (suc n) k (suc j) h =
     let e : k + 1 + j ≡ k + suc j = omega arith in
     rw e at (nth-section r n (k + 1) j (omega arith))
 
--- what holds of each pointer's section holds of all
+-- each is usable, so all are; IDs and lengths likewise
 all-usable : (r : List ℕ) (n k : ℕ)
     → ((i : ℕ) → k ≤ i → i < k + n → usable (record { id = idOf r i; bytes = sectionOf r i }) ≡ true)
     → every usable (sectionsFrom r k n) ≡ true
@@ -105,7 +104,7 @@ module _ (r : List ℕ) (ok : Accepted r) where
   unfolding countOf
   count-most = omega arith
 
-  -- what rule 3 says of the pointers
+  -- rule 3, of the pointers
   zero-parts : (fewestPointers ≤ countOf r) × (section0Length r ≡ 16 + 10 * countOf r) × (6 + section0Length r ≤ length r)
       × (allIn 0 (countOf r) (idRight r) ≡ true)
   unfolding section0Right
@@ -122,7 +121,7 @@ module _ (r : List ℕ) (ok : Accepted r) where
         f .1,
       )
 
-  -- what rules 4 and 5 say of each section
+  -- rules 4 and 5, of each section
   placed-parts : (present r 1 ≡ true) × (allIn 1 (countOf r) (placedRight r) ≡ true)
   unfolding allPlacedRight
   placed-parts = and-eq-true-iff (present r 1) (allIn 1 (countOf r) (placedRight r)) .0 (ok .row4)
@@ -143,7 +142,7 @@ module _ (r : List ℕ) (ok : Accepted r) where
       go (inl z) = absurd (omega (arith, z))
       go (inr q) = apart-never r j i p (all-at (sectionsApart r j) 1 j (q .apart) i a b) d e f g
 
-  -- they stand behind Section 0 and inside the record
+  -- each is behind Section 0 and inside the record
   within : (i : ℕ) → 1 ≤ i → i < 1 + n → startOf r i < endOf r i → (6 + section0Length r ≤ startOf r i) × (endOf r i ≤ length r)
   within i a b c = go (case-of i a (omega arith))
     where
@@ -151,7 +150,7 @@ module _ (r : List ℕ) (ok : Accepted r) where
       go (inl z) = absurd (omega (arith, z))
       go (inr q) = (omega (arith, q .after), q .inside)
 
-  -- so together they are no longer than what follows Section 0
+  -- so there is room for all of them behind Section 0
   total-most : 6 + section0Length r + totalLength (sectionsFrom r 1 n) ≤ length r
   total-most =
       let same = total-lengths r n 1 (λ i a b. length-section r i (case-of i a (omega arith))) in

@@ -10,7 +10,7 @@ use Rattle.sections.specs.Sections.{Section, nth, recordFrom, Fit, secti
 use Rattle.sections.proofs.Frame.{count-is}
 use Rattle.sections.proofs.Opened.{id-given, section-given}
 
--- a list is what a record has from a pointer on, where each of its sections is
+-- a record whose pointers show the sections of a list has that list
 sections-same : (r : List ℕ) (ss : List Section) (k : ℕ)
     → ((j : ℕ) → j < length ss → (idOf r (k + j) ≡ nth ss j .id) × (sectionOf r (k + j) ≡ nth ss j .bytes))
     → sectionsFrom r k (length ss) ≡ ss

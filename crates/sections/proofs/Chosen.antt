@@ -52,7 +52,7 @@ module _ (p : ℕ → Bool) where
       go true e small h on off = rw e (parts-rising j first s (keeping p ss) (high-rule j first (s .id) b (omega arith)) small on)
       go false e small h on off = rw e off
 
-  -- what is left is no longer, and as usable
+  -- the rest is no longer, and as usable
   keeping-most : (ss : List Section) → (length (keeping p ss) ≤ length ss) × (totalLength (keeping p ss) ≤ totalLength ss)
   unfolding keeping totalLength
   keeping-most [] = (omega arith, omega arith)
@@ -86,7 +86,7 @@ module _ (p : ℕ → Bool) where
       go true e later = rw e (rw (e, later))
       go false e later = rw e later
 
-  -- where none of the first twelve is left out, what is left fits
+  -- where none of the first twelve is left out, the rest fits
   module _ (keep : (id : ℕ) → id < 12 → p id ≡ true) where
     head-kept : (k before : ℕ) (s : Section) (ss : List Section) → k < 12 → rising k before (s ∷ ss) ≡ true
         → keeping p (s ∷ ss) ≡ s ∷ keeping p ss
@@ -156,7 +156,7 @@ module _ (g : ℕ → List ℕ → List ℕ) where
   changing-every [] h = refl
   changing-every (s ∷ ss) h = rw (h 0 (omega arith), changing-every ss (λ j l. h (suc j) (omega arith)))
 
-  -- what is changed fits, where each section stays usable, Section 1 stays there, and the record is within its bound
+  -- changed sections fit, where each stays usable, Section 1 stays present, and the record is not over its bound
   pub changing-fit : (ss : List Section) → Fit ss → ((j : ℕ) → j < length ss → usable (changed g (nth ss j)) ≡ true)
       → 0 < length (nth (changing g ss) 0 .bytes) → sizeFor (changing g ss) ≤ 1048576 → Fit (changing g ss)
   changing-fit ss f each first small =

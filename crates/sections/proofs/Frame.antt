@@ -1,4 +1,4 @@
--- A record laid out from sections: its length, where its parts stand, and what its pointers say. Assumes nothing.
+-- A record laid out from sections: its length, where its parts are, and what its pointers say. Assumes nothing.
 use Prim.Native.Nat.{ℕ, suc, _+_, _*_, _≤_, _<_}
 use mathlib.Core.Path.{_≡_, refl, ap, _∙_}
 use mathlib.Core.List.{List, [], _∷_, _++_}
@@ -20,7 +20,7 @@ use Rattle.sections.proofs.Pointed.{Pointed}
 
 -- ---- a pointer
 
--- one that stands where the k-th does says what was written
+-- the k-th says what was written there
 pub pointer-said : (r : List ℕ) (k id size index : ℕ) → Stands r (22 + 10 * k) (pointerBytes id size index)
     → id < 65536 → size < 4294967296 → index < 4294967296 → (idOf r k ≡ id) × (lengthOf r k ≡ size) × (indexOf r k ≡ index)
 unfolding pointerBytes
@@ -92,7 +92,7 @@ module _ (v w : ℕ) (ss : List Section) where
       ∙ length-checked recordBody
       ∙ omega (arith, a, b, length-bytesOf 4 (sizeFor ss), length-section0, length-bodies ss)
 
-  -- ---- where the parts stand
+  -- ---- where the parts are
 
   body-there : Stands r 2 recordBody
   body-there = rw record-checked (checked-body recordBody)
@@ -150,7 +150,7 @@ module _ (v w : ℕ) (ss : List Section) where
     pub own-said : (idOf r 0 ≡ 0) × (lengthOf r 0 ≡ section0Size ss) × (indexOf r 0 ≡ 7)
     own-said = pointer-said r 0 0 (section0Size ss) 7 own-there (omega arith) (omega (arith, f .most)) (omega arith)
 
-    -- every section stands where its pointer says
+    -- every section is where its pointer says
     pub pointed-at : (j : ℕ) → j < length ss → Pointed r (suc j) (placeAt base ss j) (nth ss j .id) (nth ss j .bytes)
     pointed-at j h =
         let s = nth ss j in

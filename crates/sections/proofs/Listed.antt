@@ -1,4 +1,4 @@
--- The sections of a list and their pointers: where each stands, and the order of their IDs. Assumes nothing.
+-- The sections of a list and their pointers: where each is, and the order of their IDs. Assumes nothing.
 use Prim.Native.Nat.{ℕ, zero, suc, _+_, _*_, _≤_, _<_}
 use mathlib.Core.Path.{_≡_, refl, ap, _∙_}
 use mathlib.Core.Bool.{Bool, true, cond, _&&_, and-eq-true-iff}
@@ -7,7 +7,7 @@ use native.Mathlib.Nat.{add-zero}
 use native.Mathlib.Omega.{arith}
 use borrow.Author.Tests.{ltb-true}
 use lib.Dec.{eqb, ltb}
-use lib.ListN.{length, length-append}
+use lib.ListN.{length, take, length-append}
 use Rattle.wire.specs.RuleWords.{every}
 use Rattle.wire.proofs.Places.{Stands, stands-inner, stands-first, stands-behind, stands-whole, stands-at}
 use Rattle.layout.specs.Layout.{pointerBytes}
@@ -34,7 +34,7 @@ placeAt place ss zero = place
 placeAt place [] (suc j) = place
 placeAt place (s ∷ ss) (suc j) = placeAt (place + length (s .bytes)) ss j
 
--- it stands there
+-- it is there
 pub section-stands : (ss : List Section) {r : List ℕ} (place j : ℕ) → j < length ss → Stands r place (bodies ss)
     → Stands r (placeAt place ss j) (nth ss j .bytes)
 unfolding bodies placeAt
@@ -44,6 +44,13 @@ section-stands (x ∷ ss) place (suc j) h s =
     let e : place + (length (x .bytes) + 0) ≡ place + length (x .bytes) = omega arith in
     let later = stands-at e (stands-inner s (stands-behind (x .bytes) (bodies ss) (stands-whole (bodies ss)))) in
     section-stands ss (place + length (x .bytes)) j (omega arith) later
+
+-- that is behind all before it
+pub place-total : (ss : List Section) (place j : ℕ) → j < length ss → placeAt place ss j ≡ place + totalLength (take j ss)
+unfolding placeAt totalLength
+place-total [] place j h = absurd (omega arith)
+place-total (s ∷ ss) place zero h = omega arith
+place-total (s ∷ ss) place (suc j) h = omega (arith, place-total ss (place + length (s .bytes)) j (omega arith))
 
 -- none starts before the first
 pub place-least : (ss : List Section) (place j : ℕ) → place ≤ placeAt place ss j
@@ -77,7 +84,7 @@ length-pointersFor (s ∷ ss) place =
     let next = place + length (s .bytes) in
     length-append (pointerOf s place) (pointersFor next ss) ∙ omega (arith, length-pointerOf s place, length-pointersFor ss next)
 
--- the j-th stands behind j others
+-- the j-th is behind j others
 pub pointer-stands : (ss : List Section) (place j : ℕ) → j < length ss
     → Stands (pointersFor place ss) (10 * j) (pointerOf (nth ss j) (placeAt place ss j))
 unfolding pointersFor placeAt
@@ -90,7 +97,7 @@ pointer-stands (s ∷ ss) place (suc j) h =
 
 -- ---- the order of their IDs
 
--- the rule of pointer k's
+-- the rule of the k-th
 abbrev pub idRule : ℕ → ℕ → ℕ → Bool
 idRule k before id = cond (ltb k 12) (eqb id k) (ltb before id)
 

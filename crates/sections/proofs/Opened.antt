@@ -24,7 +24,7 @@ use Rattle.sections.proofs.Pointed.{absent-placed, absent-check, absent
 use Rattle.sections.proofs.Pointed.{pointed-present, pointed-start, pointed-end, pointed-section, pointed-placed, pointed-check}
 use Rattle.sections.proofs.Frame as F
 
--- what holds of each number that follows one holds from 1 on
+-- the numbers from 1 on are those that follow one
 from-one : (P : ℕ → Type 0) (n : ℕ) → ((j : ℕ) → j < n → P (suc j)) → (k : ℕ) → 1 ≤ k → k < 1 + n → P k
 from-one P n h zero a b = absurd (omega arith)
 from-one P n h (suc j) a b = h j (omega arith)
@@ -113,7 +113,7 @@ module _ (v w : ℕ) (ss : List Section) (f : Fit ss) where
 
   -- ---- rules 4 and 5
 
-  -- apart from one before it
+  -- it is apart from each one before it
   apart-at : (i j : ℕ) → i < j → j < length ss → 0 < length (nth ss j .bytes) → sectionsApart r (suc j) (suc i) ≡ true
   apart-at i j a b some = go (case-at i (omega arith))
     where

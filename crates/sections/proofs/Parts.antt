@@ -1,4 +1,4 @@
--- What is read of a part of a record where it stands, and its check. Assumes nothing.
+-- A part of a record is read there as it is alone, its check too. Assumes nothing.
 use Prim.Native.Nat.{ℕ, zero, suc, _+_, _-_, _≤_}
 use mathlib.Core.Path.{_≡_, refl, sym, ap, _∙_}
 use mathlib.Core.Bool.{true}
@@ -17,10 +17,10 @@ use Rattle.record.specs.RecordRules.{holdsCheck}
 use Rattle.layout.specs.Layout.{checked}
 use Rattle.layout.proofs.Laws.{length-checked}
 
--- ---- a part that stands in a record
+-- ---- a part of a record
 
 module _ {r : List ℕ} {start : ℕ} {x : List ℕ} (s : Stands r start x) where
-  -- its numbers are read there
+  -- its numbers
   pub stands-number : (w i : ℕ) → i + w ≤ length x → numberAt w r (start + i) ≡ numberAt w x i
   unfolding numberAt
   stands-number zero i h = refl
@@ -28,14 +28,14 @@ module _ {r : List ℕ} {start : ℕ} {x : List ℕ} (s : Stands r start x) wher
       let later = rw (← add-assoc start i 1) at (stands-number w (i + 1) (omega arith)) in
       rw (stands-byte s i (omega arith), later)
 
-  -- its check is right there exactly if it is
+  -- its check
   pub stands-check : 2 ≤ length x → holdsCheck r start (start + length x) ≡ holdsCheck x 0 (length x)
   unfolding holdsCheck
   stands-check h =
       let n = rw (add-zero start) at (stands-number 2 0 h) in
       rw (n, stands-cut s 2 (length x) h (omega arith), zero-add 2)
 
--- what is cut out stands there
+-- a part that is cut out is one
 module _ (r : List ℕ) (a b : ℕ) (order : a ≤ b) (inside : b ≤ length r) where
   pub part-stands : Stands r a (part r a b)
   part-stands =

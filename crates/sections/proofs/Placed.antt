@@ -20,7 +20,7 @@ use Rattle.sections.proofs.Sound.{Sound, sound-usable}
 
 -- ---- rule 4
 
--- what it says of a section that is there
+-- all that it asks of a section that is present
 pub record Placed (r : List ℕ) (k : ℕ) : Type 0 where
   pub even : lengthOf r k % 2 ≡ 0
   pub least : 16 ≤ lengthOf r k
@@ -49,7 +49,7 @@ placed-parts r k h =
       apart = e .1;
     }
 
--- it is absent, or the rule says all that
+-- a section is absent, or the rule says all that
 pub placed-cases : (r : List ℕ) (k : ℕ) → placedRight r k ≡ true → (lengthOf r k ≡ 0) ⊎ Placed r k
 unfolding placedRight
 placed-cases r k h = go (eqb (lengthOf r k) 0) refl
@@ -83,7 +83,7 @@ module _ (r : List ℕ) (k : ℕ) (cases : (lengthOf r k ≡ 0) ⊎ Placed r k) 
       go (inl e) = let n : endOf r k - startOf r k ≡ 0 = omega (arith, e) in rw (n, e)
       go (inr p) = length-part r (startOf r k) (endOf r k) (omega arith) (p .inside) ∙ omega arith
 
-  -- it is sound where it is there and its check is right
+  -- it is sound where it is present and its check is right
   section-sound : sectionCheckRight r k ≡ true → Placed r k → Sound (idOf r k) (sectionOf r k)
   unfolding sectionOf sectionCheckRight
   section-sound check p =

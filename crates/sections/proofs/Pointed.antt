@@ -1,5 +1,5 @@
--- A section that stands where its pointer says is what the reader cuts out; where it is sound, it keeps the rules of its place, its header
--- and its check. An absent one breaks none. Assumes nothing.
+-- A section that is where its pointer says is cut out by the reader as it is; a sound one keeps the rules of its place, its header and its
+-- check, and an absent one breaks none. Assumes nothing.
 use Prim.Native.Nat.{ℕ, _+_, _-_, _%_, _≤_, _<_}
 use mathlib.Core.Path.{_≡_, refl, sym, ap, _∙_}
 use mathlib.Core.Bool.{true, false, not, or-true}
@@ -17,7 +17,7 @@ use Rattle.sections.specs.Sections.{indexFor}
 use Rattle.sections.proofs.Parts.{stands-number, stands-check}
 use Rattle.sections.proofs.Sound.{Sound}
 
--- pointer k names the section and its place, and it stands there
+-- pointer k has the section's ID, length and index, and the section is there
 pub record Pointed (r : List ℕ) (k place id : ℕ) (s : List ℕ) : Type 0 where
   pub own : idOf r k ≡ id
   pub size : lengthOf r k ≡ length s
@@ -68,7 +68,7 @@ module _ {r : List ℕ} {k place id : ℕ} {s : List ℕ} (p : Pointed r k place
   pub pointed-end : 0 < length s → endOf r k ≡ place + length s
   pointed-end h = rw (pointed-start h, p .size)
 
-  -- it is what the reader cuts out, also where it is absent
+  -- the reader cuts it out, also where it is absent
   pub pointed-section : sectionOf r k ≡ s
   unfolding sectionOf
   pointed-section = go s refl

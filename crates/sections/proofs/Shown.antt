@@ -4,12 +4,13 @@ use mathlib.Core.Path.{_≡_, refl, _∙_}
 use mathlib.Core.List.{List, [], _∷_}
 use native.Mathlib.Omega.{arith}
 use borrow.Author.Tests.{eqb-true, lt-ltb}
-use lib.ListN.{length}
+use lib.ListN.{length, take}
 use Rattle.wire.proofs.Places.{stands-byte}
-use Rattle.pointers.specs.Pointers.{indexOf}
-use Rattle.sections.specs.Sections.{Section, nth, indexFor, recordFrom, Fit}
+use Rattle.pointers.specs.Pointers.{indexOf, startOf}
+use Rattle.sections.specs.Sections.{Section, nth, totalLength, indexFor, section0Size, recordFrom, Fit}
 use Rattle.sections.specs.Shown.{Shows}
-use Rattle.sections.proofs.Listed.{placeAt, rising-at}
+use Rattle.sections.proofs.Listed.{placeAt, place-total, rising-at}
+use Rattle.sections.proofs.Pointed.{pointed-start}
 use Rattle.sections.proofs.Frame.{base, length-record, unjudged-there, count-is, pointed-at}
 use Rattle.sections.proofs.Opened.{length-kept, record-check-kept, section0-kept, placed-kept, checks-kept}
 use Rattle.sections.proofs.Opened.{id-given, section-given, present-given}
@@ -22,6 +23,10 @@ index-none (b ∷ s) place e = absurd (omega arith)
 module _ (v w : ℕ) (ss : List Section) (f : Fit ss) where
   absent-index : (j : ℕ) → j < length ss → length (nth ss j .bytes) ≡ 0 → indexOf (recordFrom v w ss) (suc j) ≡ 0
   absent-index j h e = pointed-at v w ss f j h .index ∙ index-none (nth ss j .bytes) (placeAt (base v w ss) ss j) e
+
+  start-at : (j : ℕ) → j < length ss → 0 < length (nth ss j .bytes)
+      → startOf (recordFrom v w ss) (suc j) ≡ 6 + section0Size ss + totalLength (take j ss)
+  start-at j h some = pointed-start (pointed-at v w ss f j h) some ∙ place-total ss (base v w ss) j h
 
   number-at : (j : ℕ) → j < 11 → nth ss j .id ≡ suc j
   number-at j h =
@@ -43,5 +48,6 @@ module _ (v w : ℕ) (ss : List Section) (f : Fit ss) where
     number = number-at;
     section = section-given v w ss f;
     there = present-given v w ss f;
+    start = start-at;
     absent = absent-index;
   }

@@ -1,4 +1,4 @@
--- A sound section: its rules one by one. One that is made new is sound, and its parts stand where they should. Assumes nothing.
+-- The rules of a sound section one by one; a section made new keeps them, and its parts are where they should be. Assumes nothing.
 use Prim.Native.Nat.{ℕ, _+_, _%_, _≤_, _<_}
 use mathlib.Core.Path.{_≡_, refl, sym, ap, _∙_}
 use mathlib.Core.Bool.{Bool, true, false, or-true, and-eq-true-iff}
@@ -75,7 +75,7 @@ module _ (id : ℕ) (unjudged d : List ℕ) where
   abbrev s : List ℕ
   s = sectionWith id unjudged d
 
-  -- its length's bytes, and what its check is taken over
+  -- its length's bytes, and those that its check is taken over
   abbrev size : List ℕ
   size = bytesOf 4 (sectionLength (length d))
 
@@ -94,7 +94,7 @@ module _ (id : ℕ) (unjudged d : List ℕ) where
   unfolding sectionWith checked headWith bytesOf
   with-headed = refl
 
-  -- the bytes that are not judged stand behind the length
+  -- the bytes that are not judged are behind the length
   pub with-unjudged : Stands s 8 unjudged
   unfolding sectionWith checked bytesOf
   with-unjudged =
@@ -108,7 +108,7 @@ module _ (id : ℕ) (unjudged d : List ℕ) where
     pub length-with : length s ≡ sectionLength (length d)
     length-with = ap length with-headed ∙ length-append headWith (evened d) ∙ omega (arith, length-headWith, length-evened d)
 
-    -- the data stand behind the header
+    -- the data are behind the header
     pub with-data : Stands s 16 d
     unfolding evened
     with-data =

@@ -1,4 +1,4 @@
--- The record that the writer writes is one laid out from sections, and they fit. Assumes nothing.
+-- The record that the writer writes is laid out from sections, and they fit. Assumes nothing.
 use Prim.Native.Nat.{ℕ, _+_, _≤_, _<_}
 use mathlib.Core.Path.{_≡_, refl, ap, _∙_}
 use mathlib.Core.Bool.{Bool, true, false, cond}

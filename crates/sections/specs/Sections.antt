@@ -1,5 +1,5 @@
 -- A record as a list of sections (01, The record; 01, Refusal numbers, the paragraphs under the table): Section 0 with a pointer for each,
--- then those that are there, each behind the one before it. A section is given whole, header and check with it, so that one that is
+-- then those that are present, in rising ID and without gaps. A section is given whole, header and check with it, so that one that is
 -- carried over stays as it was. Places count from 0, indexes from 1.
 use Prim.Native.Nat.{ℕ, zero, suc, _+_, _-_, _*_, _%_, _≤_, _<_}
 use mathlib.Core.Path.{_≡_}
@@ -15,7 +15,7 @@ use Rattle.layout.specs.Layout.{evened, sectionLength, checked, sectionBytes, l
 
 -- ---- a section
 
--- an ID, and the bytes of the section; none where it is absent
+-- its ID and its bytes; an absent one has none
 pub record Section : Type 0 where
   pub id : ℕ
   pub bytes : List ℕ
@@ -61,7 +61,7 @@ unfoldable pub indexFor : List ℕ → ℕ → ℕ
 indexFor [] place = 0
 indexFor (b ∷ bs) place = 1 + place
 
--- the pointers of sections that stand from a place on
+-- the pointers of sections, the first of which is at a place, and each other one behind the one before it
 unfoldable pub pointersFor : ℕ → List Section → List ℕ
 pointersFor place [] = []
 pointersFor place (s ∷ ss) =
@@ -75,11 +75,11 @@ pointerCount ss = 1 + length ss
 abbrev pub section0Size : List Section → ℕ
 section0Size ss = 16 + 10 * pointerCount ss
 
--- its data: its own pointer has index 7, and the sections stand behind it
+-- its data: its own pointer, with index 7, then those of the sections, which begin behind it
 unfoldable pub section0Data : List Section → List ℕ
 section0Data ss = pointerBytes 0 (section0Size ss) 7 ++ pointersFor (6 + section0Size ss) ss
 
--- Section 0, by its section version and its protocol version; its reserved bytes are the letters
+-- Section 0, with its section version and its protocol version; its reserved bytes are the letters
 unfoldable pub section0Bytes : ℕ → ℕ → List Section → List ℕ
 section0Bytes version protocol ss = sectionWith 0 (version ∷ (protocol ∷ letters)) (section0Data ss)
 
@@ -100,8 +100,8 @@ rising k before [] = true
 rising k before (s ∷ ss) =
     cond (ltb k 12) (eqb (s .id) k) (ltb before (s .id)) && (ltb (s .id) 65536 && rising (k + 1) (s .id) ss)
 
--- there are 12 to 64 pointers, their IDs in order; every section is absent or sound, and Section 1 is present; the record is within its
--- bound (never under 142 bytes, which Section 0 brings)
+-- there are 12 to 64 pointers, with IDs in order; every section is absent or sound, and Section 1 is present; the record is not over its
+-- bound. It is never under 142 bytes, since twelve pointers take as many
 pub record Fit (ss : List Section) : Type 0 where
   pub least : fewestPointers ≤ pointerCount ss
   pub most : pointerCount ss ≤ mostPointers

@@ -30,7 +30,7 @@ module _ (v : ℕ) (d1 d2 d3 d6 : List ℕ) (small : length (recordBytes v d1 d2
   fit : Fit ss
   fit = four-fit v d1 d2 d3 d6 small
 
-  -- each section stands where its pointer says
+  -- each section is where its pointer says
   pointed : (j : ℕ) → j < 11 → Pointed r (suc j) (placeAt 142 ss j) (nth ss j .id) (nth ss j .bytes)
   pointed j h = rw (as-sections v d1 d2 d3 d6) (pointed-at v v ss fit j h)
 

@@ -1,4 +1,4 @@
--- A section that the writer wrote stands where its pointer says, and its data are read behind its header as they were given. Assumes
+-- A section that the writer wrote is where its pointer says, and its data are read behind its header as they were given. Assumes
 -- nothing.
 use Prim.Native.Nat.{ℕ, _+_, _%_, _<_}
 use mathlib.Core.Path.{_≡_, refl, sym, ap, _∙_}
@@ -25,12 +25,12 @@ evened-byte : (s : List ℕ) (i : ℕ) → byteAt (evened s) i ≡ byteAt s i
 unfolding evened
 evened-byte s i = zeros-behind s (length s % 2) i
 
--- a section s has data d behind its header: all that is read there is as in the data alone, and the data stand there
+-- a section s has data d behind its header: all that is read there is as in the data alone, and the data are there
 pub record Holds (s d : List ℕ) : Type 0 where
   pub moved : Moved s 16 d
   pub stands : Stands s 16 d
 
--- so has any that is made with them
+-- a section made with these data has them
 with-holds : (id : ℕ) (unjudged d : List ℕ) → length unjudged ≡ 8 → Holds (sectionWith id unjudged d) d
 with-holds id unjudged d eight =
     let h = headWith id unjudged d in
