@@ -17,7 +17,7 @@ use Rattle.pointers.specs.Pointers.{fewestPointers, mostPointers, section0Lengt
 use Rattle.record.specs.RecordRules.{lengthRight, holdsCheck, recordCheckRight, lettersRight, idRight, ownPointerRight, section0Right}
 use Rattle.record.specs.RecordRules.{sectionsApart, placedRight, allPlacedRight, sectionCheckRight, checksRight}
 use Rattle.record.specs.Opening.{openRefusal}
-use Rattle.sections.specs.Sections.{Section, nth, usable, totalLength, sizeFor, rising, Fit, sectionsFrom, sectionsIn}
+use Rattle.sections.specs.Sections.{Section, nth, usable, totalLength, sizeFor, rising, Fit, sectionAt, sectionsFrom, sectionsIn}
 use Rattle.sections.proofs.Disjoint.{lengths, Apart, lengths-most}
 use Rattle.sections.proofs.Placed.{Placed, placed-cases, apart-never, length-section, section-usable}
 
@@ -28,8 +28,7 @@ unfolding sectionsFrom
 length-sections r zero k = refl
 length-sections r (suc n) k = ap suc (length-sections r n (k + 1))
 
-pub nth-section : (r : List ℕ) (n k j : ℕ) → j < n
-    → nth (sectionsFrom r k n) j ≡ record { id = idOf r (k + j); bytes = sectionOf r (k + j) }
+pub nth-section : (r : List ℕ) (n k j : ℕ) → j < n → nth (sectionsFrom r k n) j ≡ sectionAt r (k + j)
 unfolding sectionsFrom
 nth-section r zero k j h = absurd (omega arith)
 nth-section r (suc n) k zero h = rw (add-zero k)
@@ -38,8 +37,7 @@ nth-section r (suc n) k (suc j) h =
     rw e at (nth-section r n (k + 1) j (omega arith))
 
 -- each is usable, so all are; IDs and lengths likewise
-all-usable : (r : List ℕ) (n k : ℕ)
-    → ((i : ℕ) → k ≤ i → i < k + n → usable (record { id = idOf r i; bytes = sectionOf r i }) ≡ true)
+all-usable : (r : List ℕ) (n k : ℕ) → ((i : ℕ) → k ≤ i → i < k + n → usable (sectionAt r i) ≡ true)
     → every usable (sectionsFrom r k n) ≡ true
 unfolding every sectionsFrom
 all-usable r zero k h = refl

@@ -14,7 +14,7 @@ use Rattle.wire.proofs.Laws.{unlike}
 use Rattle.wire.proofs.Places.{Stands}
 use Rattle.pointers.specs.Pointers.{section0Length, idOf, lengthOf, indexOf, startOf, endOf, sectionOf}
 use Rattle.record.specs.RecordRules.{holdsCheck, placeRight, headerRepeats, sectionsApart, placedRight, sectionCheckRight}
-use Rattle.sections.specs.Sections.{usable}
+use Rattle.sections.specs.Sections.{usable, sectionAt}
 use Rattle.sections.proofs.Parts.{stands-number, stands-check, part-stands, length-part}
 use Rattle.sections.proofs.Sound.{Sound, sound-usable}
 
@@ -101,10 +101,10 @@ module _ (r : List ℕ) (k : ℕ) (cases : (lengthOf r k ≡ 0) ⊎ Placed r k) 
       }
 
   -- so it is usable
-  pub section-usable : sectionCheckRight r k ≡ true → usable (record { id = idOf r k; bytes = sectionOf r k }) ≡ true
+  pub section-usable : sectionCheckRight r k ≡ true → usable (sectionAt r k) ≡ true
   unfolding usable
   section-usable check = go cases
     where
-      go : (lengthOf r k ≡ 0) ⊎ Placed r k → usable (record { id = idOf r k; bytes = sectionOf r k }) ≡ true
+      go : (lengthOf r k ≡ 0) ⊎ Placed r k → usable (sectionAt r k) ≡ true
       go (inl e) = rw (eq-eqb (length (sectionOf r k)) 0 (length-section ∙ e))
-      go (inr p) = sound-usable (record { id = idOf r k; bytes = sectionOf r k }) (section-sound check p)
+      go (inr p) = sound-usable (sectionAt r k) (section-sound check p)

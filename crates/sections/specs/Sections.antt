@@ -101,7 +101,7 @@ rising k before (s ∷ ss) =
     cond (ltb k 12) (eqb (s .id) k) (ltb before (s .id)) && (ltb (s .id) 65536 && rising (k + 1) (s .id) ss)
 
 -- there are 12 to 64 pointers, with IDs in order; every section is absent or sound, and Section 1 is present; the record is not over its
--- bound. It is never under 142 bytes, since twelve pointers take as many
+-- bound. Twelve pointers already make the 142 bytes that a record has at least
 pub record Fit (ss : List Section) : Type 0 where
   pub least : fewestPointers ≤ pointerCount ss
   pub most : pointerCount ss ≤ mostPointers
@@ -112,10 +112,13 @@ pub record Fit (ss : List Section) : Type 0 where
 
 -- ---- the sections of a record
 
--- those of n pointers from the k-th on
+-- that of pointer k, and those of n pointers from the k-th on
+abbrev pub sectionAt : List ℕ → ℕ → Section
+sectionAt r k = record { id = idOf r k; bytes = sectionOf r k }
+
 unfoldable pub sectionsFrom : List ℕ → ℕ → ℕ → List Section
 sectionsFrom r k zero = []
-sectionsFrom r k (suc n) = record { id = idOf r k; bytes = sectionOf r k } ∷ sectionsFrom r (k + 1) n
+sectionsFrom r k (suc n) = sectionAt r k ∷ sectionsFrom r (k + 1) n
 
 -- all but Section 0
 unfoldable pub sectionsIn : List ℕ → List Section
