@@ -15,7 +15,7 @@ use Rattle.layout.specs.Layout.{entriesOf, leadsData}
 use Rattle.layout.specs.InnerLeads.{entryBytes}
 use Rattle.layout.proofs.Laws.{length-leadsData}
 use Rattle.wire.proofs.Places.{Stands, stands-byte, stands-inner, stands-first, stands-behind, stands-at, stands-written}
-use Rattle.trip.proofs.Sections.{Holds}
+use Rattle.trip.proofs.Placed.{Holds}
 
 entry-stands : (firsts counts ids : List ℕ) → length firsts ≡ length counts → length ids ≡ length counts → (k : ℕ) → k < length counts
     → Stands (entriesOf firsts counts ids) (9 * k) (entryBytes (getD firsts k 0) (getD counts k 0) (getD ids k 0))

@@ -1,8 +1,6 @@
 pub mod Traces
-pub mod Sections
 pub mod Entries
 pub mod Streams
-pub mod Frame
 pub mod Placed
 pub mod Opened
 pub mod Compose

@@ -17,7 +17,7 @@ use Rattle.layout.proofs.Laws.{length-byteCountsOf, length-streamsData}
 use Rattle.compose.specs.Writing.{allShort}
 use Rattle.wire.proofs.Places.{Stands, stands-part, stands-byte, stands-inner, stands-first}
 use Rattle.wire.proofs.Places.{stands-behind, stands-whole, stands-at, stands-written}
-use Rattle.trip.proofs.Sections.{Holds}
+use Rattle.trip.proofs.Placed.{Holds}
 
 -- the bytes of the first k streams together
 unfoldable pub before : ℕ → List (List ℕ) → ℕ

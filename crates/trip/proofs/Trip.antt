@@ -1,6 +1,6 @@
 -- The round trip (the second demand): what the writer accepts and writes, the reader gives back. Assumes nothing.
 use Prim.Native.Nat.{ℕ, _+_, _-_, _%_, _≤_, _<_}
-use mathlib.Core.Path.{_≡_, refl, ap, _∙_}
+use mathlib.Core.Path.{_≡_, refl, _∙_}
 use mathlib.Core.Bool.{Bool, true, false, not, _||_, cond, and-false}
 use mathlib.Core.List.{List, [], map}
 use mathlib.Core.Logic.{_⊎_, inl, inr}
@@ -29,13 +29,12 @@ use Rattle.samples.specs.Trace.{rebuilt}
 use Rattle.leads.specs.LeadTrace.{tablesOf, streamTrace, sampleCountAt, residual, traceAt, roomRight, readRefusal, readTrace}
 use Rattle.leads.specs.LeadAnswers.{leadAnswer, entryAnswer}
 use Rattle.encode.specs.Encoding.{tablesGiven, tablesGivenRight}
-use Rattle.layout.specs.Layout.{sectionLength, zeroReserved, leadsData, streamsData, recordBytes}
+use Rattle.layout.specs.Layout.{leadsData, streamsData, recordBytes}
 use Rattle.compose.specs.Writing.{Job, jobRight, cut, SearchFindsAll, packedAll, allShort, recordOf}
 use Rattle.trip.specs.GivenBack.{JobFits, GivenBack, behindHeader, samplesOf}
 use Rattle.trip.proofs.Traces.{stream-back}
 use Rattle.wire.proofs.Places.{Stands, stands-part, stands-cut, stands-inner}
-use Rattle.trip.proofs.Sections.{headOf, section-headed, length-head, headed-holds}
-use Rattle.trip.proofs.Placed.{Placed, absent-present, placed-present, placed-holds}
+use Rattle.trip.proofs.Placed.{Placed}
 use Rattle.trip.proofs.Opened as O
 use Rattle.trip.proofs.Entries as E
 use Rattle.trip.proofs.Streams as S
@@ -44,39 +43,38 @@ use Rattle.trip.proofs.Compose.{Right, job-right, given-right, length-c
 -- ---- fields
 
 -- Section 1 stands in a record that opens
-module _ (r : List ℕ) (v : ℕ) (d : List ℕ) (opened : openRefusal r ≡ 0) (p : Placed r 1 v 142 d) (right : section1Right 0 d 0 ≡ true) where
+module _ (r : List ℕ) (d : List ℕ) (opened : openRefusal r ≡ 0) (p : Placed r 1 d) (right : section1Right 0 d 0 ≡ true) where
+  abbrev at : ℕ
+  at = startOf r 1
+
   -- its data
-  data-there : Stands r 158 d
-  data-there =
-      let inner = headed-holds (headOf 1 v zeroReserved d) (length-head 1 v zeroReserved d refl) d .stands in
-      stands-inner (p .there) (rw (← section-headed 1 v zeroReserved d) at inner)
+  data-there : Stands r (at + 16) d
+  data-there = stands-inner (p .there) (p .holds .stands)
 
   -- a field is shown as it was given
   field-shown : (tag n : ℕ) (step : Step) → occurring n (withTag tag (fieldsFrom d 0)) ≡ step
       → (refusalOf (fieldPlace r tag n) ≡ refusalOf (placeFound 0 step)) × (partBytes r (fieldPlace r tag n) ≡ shownBytes d step)
   unfolding fieldPlace
   field-shown tag n step e =
-      let place = placeFound (startOf r 1) (occurring n (withTag tag (fieldsFrom (sectionOf r 1) 16))) in
-      let start : startOf r 1 ≡ 142 = omega (arith, p .index) in
-      let there = occurring-there (placed-holds p .moved) right n tag in
-      rw (place-opened r place _ opened, there, start, e) (go step e)
+      let place = placeFound at (occurring n (withTag tag (fieldsFrom (sectionOf r 1) 16))) in
+      rw (place-opened r place _ opened, occurring-there (p .holds .moved) right n tag, e) (go step e)
     where
       go : (s : Step) → occurring n (withTag tag (fieldsFrom d 0)) ≡ s
-          → (refusalOf (placeFound 142 (movedStep s)) ≡ refusalOf (placeFound 0 s)) × (partBytes r (placeFound 142 (movedStep s)) ≡ shownBytes d s)
+          → (refusalOf (placeFound at (movedStep s)) ≡ refusalOf (placeFound 0 s)) × (partBytes r (placeFound at (movedStep s)) ≡ shownBytes d s)
       go End e = (refl, refl)
       go (Found f) e =
           let w = found-within n tag d 0 f e in
-          let a : 142 + (16 + f .start) ≡ 158 + f .start = omega arith in
-          let b : 158 + f .start + (16 + f .end - (16 + f .start)) ≡ 158 + f .end = omega (arith, w .order) in
+          let a : at + (16 + f .start) ≡ at + 16 + f .start = omega arith in
+          let b : at + 16 + f .start + (16 + f .end - (16 + f .start)) ≡ at + 16 + f .end = omega (arith, w .order) in
           (refl, rw (a, b) (stands-cut data-there (f .start) (f .end) (w .order) (w .end)))
 
   -- Section 1's data are those given
   section1-there : part (sectionOf r 1) 16 (16 + length d) ≡ d
-  section1-there = stands-part (placed-holds p .stands)
+  section1-there = stands-part (p .holds .stands)
 
   -- and a walk meets the fields in their order
   walk-there : fieldsFrom (sectionOf r 1) 16 ≡ map behindHeader (fieldsFrom d 0)
-  walk-there = fields-moved (placed-holds p .moved) (mark-kept (placed-holds p .moved) right)
+  walk-there = fields-moved (p .holds .moved) (mark-kept (p .holds .moved) right)
 
 -- ---- leads
 
@@ -107,32 +105,23 @@ module _ (j : Job) (founds : List (Option (List ℕ))) (streams : List (List ℕ
   as-many = found-length (j .section2) (j .order) streams found made ∙ length-cut (j .counts) (j .samples)
 
   -- its sections
-  placed2 : eqb (length (j .section2)) 0 ≡ false → Placed r 2 (j .version) (142 + sectionLength (length (j .section1))) (j .section2)
+  placed2 : eqb (length (j .section2)) 0 ≡ false → Placed r 2 (j .section2)
   placed2 e = O.section2-placed (j .version) (j .section1) (j .section2) d3 d6 small e
 
   absent2 : eqb (length (j .section2)) 0 ≡ true → present r 2 ≡ false
-  absent2 e = absent-present r 2 (O.section2-absent (j .version) (j .section1) (j .section2) d3 d6 small e)
+  absent2 e = O.section2-absent (j .version) (j .section1) (j .section2) d3 d6 small e
 
-  present3 : present r 3 ≡ true
-  present3 = placed-present (O.section3-placed (j .version) (j .section1) (j .section2) d3 d6 small)
+  placed3 : Placed r 3 d3
+  placed3 = O.section3-placed (j .version) (j .section1) (j .section2) d3 d6 small
 
-  present6 : present r 6 ≡ true
-  present6 = placed-present (O.section6-placed (j .version) (j .section1) (j .section2) d3 d6 small)
+  placed6 : Placed r 6 d6
+  placed6 = O.section6-placed (j .version) (j .section1) (j .section2) d3 d6 small
 
   three : E.Leads (sectionOf r 3) (j .flags) (j .firsts) (j .counts) (j .ids)
-  three = record {
-    holds = placed-holds (O.section3-placed (j .version) (j .section1) (j .section2) d3 d6 small);
-    all = right .firsts;
-    named = right .ids;
-    asked = right .leads;
-  }
+  three = record { holds = placed3 .holds; all = right .firsts; named = right .ids; asked = right .leads }
 
   six : S.Streams (sectionOf r 6) (j .step) (j .interval) (j .order) streams
-  six = record {
-    holds = placed-holds (O.section6-placed (j .version) (j .section1) (j .section2) d3 d6 small);
-    short = short;
-    small = (bytes .step, bytes .interval);
-  }
+  six = record { holds = placed6 .holds; short = short; small = (bytes .step, bytes .interval) }
 
   -- what they say
   leads-there : leadCountOf r ≡ n
@@ -140,7 +129,7 @@ module _ (j : Job) (founds : List (Option (List ℕ))) (streams : List (List ℕ
 
   no-beat : beatSubtracted r ≡ false
   unfolding beatSubtracted
-  no-beat = rw present3 (E.leads-whole three)
+  no-beat = rw (placed3 .present) (E.leads-whole three)
 
   section6-kept : section6Right (leadCountOf r) (sectionOf r 6) ≡ true
   section6-kept =
@@ -157,15 +146,15 @@ module _ (j : Job) (founds : List (Option (List ℕ))) (streams : List (List ℕ
       go : (b : Bool) → eqb (length (j .section2)) 0 ≡ b → b || section2Right 0 (j .section2) 0 ≡ true
           → not (present r 2) || section2Right 1 (sectionOf r 2) 16 ≡ true
       go true e g = rw (absent2 e)
-      go false e g = rw (placed-present (placed2 e)) (section2-moved (placed-holds (placed2 e) .moved) g)
+      go false e g = rw (placed2 e .present) (section2-moved (placed2 e .holds .moved) g)
 
   leads-kept : sections3To6Right r ≡ true
   unfolding sections3To6Right beatRight section6Kept
-  leads-kept = rw (present3, section3-kept, no-beat, present6, section6-kept)
+  leads-kept = rw (placed3 .present, section3-kept, no-beat, placed6 .present, section6-kept)
 
   agrees-kept : agrees r ≡ true
   unfolding agrees stepsAgree
-  agrees-kept = rw (present6, S.streams-bimodal six, no-beat)
+  agrees-kept = rw (placed6 .present, S.streams-bimodal six, no-beat)
 
   -- the reader's tables are the writer's
   tables-same : tablesOf r ≡ tablesGiven (j .section2)
@@ -175,7 +164,7 @@ module _ (j : Job) (founds : List (Option (List ℕ))) (streams : List (List ℕ
       go : (b : Bool) → eqb (length (j .section2)) 0 ≡ b
           → cond (present r 2) (tablesIn (sectionOf r 2) 16) [] ≡ cond b [] (tablesIn (j .section2) 0)
       go true e = rw (absent2 e)
-      go false e = rw (placed-present (placed2 e)) (tables-there (placed-holds (placed2 e) .moved))
+      go false e = rw (placed2 e .present) (tables-there (placed2 e .holds .moved))
 
   opened : openRefusal r ≡ 0
   opened = O.opens-written (j .version) (j .section1) (j .section2) d3 d6 small one
@@ -183,9 +172,9 @@ module _ (j : Job) (founds : List (Option (List ℕ))) (streams : List (List ℕ
   -- there are as many leads as the job has
   no-lead : (place : ℕ) → (place ≡ 0) ⊎ (n < place) → leadRefusal r place ≡ 10
   unfolding leadRefusal opens hasLead
-  no-lead place (inl e) = rw (eq-eqb (openRefusal r) 0 opened, tables-kept, leads-kept, agrees-kept, present3, present6, e)
+  no-lead place (inl e) = rw (eq-eqb (openRefusal r) 0 opened, tables-kept, leads-kept, agrees-kept, placed3 .present, placed6 .present, e)
   no-lead place (inr l) =
-      rw (eq-eqb (openRefusal r) 0 opened, tables-kept, leads-kept, agrees-kept, present3, present6, leads-there)
+      rw (eq-eqb (openRefusal r) 0 opened, tables-kept, leads-kept, agrees-kept, placed3 .present, placed6 .present, leads-there)
       (rw (lt-leb place n l, and-false (leb 1 place)))
 
   no-other : (place room work : ℕ) → (place ≡ 0) ⊎ (n < place)
@@ -196,7 +185,7 @@ module _ (j : Job) (founds : List (Option (List ℕ))) (streams : List (List ℕ
   module _ (k : ℕ) (there : k < n) where
     lead-there : hasLead r (k + 1) ≡ true
     unfolding hasLead
-    lead-there = rw (present3, present6, leads-there, le-leb 1 (k + 1) (omega arith), le-leb (k + 1) n (omega arith))
+    lead-there = rw (placed3 .present, placed6 .present, leads-there, le-leb 1 (k + 1) (omega arith), le-leb (k + 1) n (omega arith))
 
     lead-accepted : leadRefusal r (k + 1) ≡ 0
     unfolding leadRefusal opens
@@ -298,9 +287,9 @@ given-back j founds streams bytes asked one two found made short small =
     let placed = O.section1-placed (j .version) (j .section1) (j .section2) three six small in
     record {
       opened = accepted;
-      section1 = section1-there r (j .version) (j .section1) accepted placed one;
-      walked = walk-there r (j .version) (j .section1) accepted placed one;
-      fields = field-shown r (j .version) (j .section1) accepted placed one;
+      section1 = section1-there r (j .section1) accepted placed one;
+      walked = walk-there r (j .section1) accepted placed one;
+      fields = field-shown r (j .section1) accepted placed one;
       samples = λ k room work there enough.
           lead-read j founds streams bytes asked one two found made short small k there room work enough;
       answers = λ k room work there enough.

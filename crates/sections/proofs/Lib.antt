@@ -1,0 +1,13 @@
+pub mod Parts
+pub mod Sound
+pub mod Listed
+pub mod Pointed
+pub mod Frame
+pub mod Opened
+pub mod Shown
+pub mod Written
+pub mod Disjoint
+pub mod Placed
+pub mod Accepted
+pub mod Back
+pub mod Chosen
