@@ -58,9 +58,11 @@ const SWITCHES: [u8; 22] = *b"\
     \x01\x01\x00\x01\x00\x00\x00\x00\x00\
     \x01\x01\x01\x00\x00\x01\x00\x00\x00";
 
-// The streams of the examples: 20 values with two switches, 7 values, 28 values, and these as they are misprinted, the sixth byte
-// wrong and the last one missing.
+// The streams of the examples: 20 values with two switches, and these as they are misprinted, with 91 bits instead of 92: one of the six
+// ones from bit 57 on is missing; 7 values; 28 values, and these as they are misprinted, the sixth byte wrong and the last one missing.
 const TWENTY: [u8; 12] = *b"\x99\x5E\x06\xF0\x48\xDE\x80\xFD\x01\xBD\x36\xC0";
+
+const NINETY_ONE: [u8; 12] = *b"\x99\x5E\x06\xF0\x48\xDE\x80\xFA\x03\x7A\x6D\x80";
 
 const SEVEN: [u8; 9] = *b"\xFF\x83\xBF\xE1\x27\xBF\xF7\xBD\xF8";
 
@@ -153,6 +155,7 @@ fn show(section2: &[u8], stream: &[u8], count: usize) {
 // The examples, whole.
 fn show_examples() {
     show(&TWO_TABLES, &TWENTY, 20);
+    show(&TWO_TABLES, &NINETY_ONE, 20);
     show(&NAMED, &SEVEN, 7);
     show(&NAMED, &MANY, 28);
     show(&NAMED, &MISPRINT, 27);
