@@ -2,8 +2,8 @@
 -- nothing.
 use Prim.Native.Nat.{ℕ, zero, suc, _+_, _-_, _*_, _≤_}
 use mathlib.Core.Path.{_≡_, refl, sym, ap, _∙_}
-use mathlib.Core.Bool.{true}
-use mathlib.Core.List.{List, _∷_, _++_}
+use mathlib.Core.Bool.{Bool, true, false, not, _||_, cond}
+use mathlib.Core.List.{List, [], _∷_, _++_}
 use mathlib.Core.Option.{Option, none, some}
 use native.Mathlib.Omega.{arith}
 use lib.IntN.{ℤ}
@@ -15,12 +15,15 @@ use Rattle.header.specs.declared.Field.{Field}
 use Rattle.header.specs.declared.Step.the-variants.{Found}
 use Rattle.header.proofs.Laws.{step-found, fields-step}
 use Rattle.header.specs.Fields.{stepAt, onward, fieldsFrom, withTag, occurring}
-use Rattle.pointers.specs.Pointers.{dataAt, countOf, startOf, lengthOf, sectionOf, pointersFrom}
+use Rattle.pointers.specs.Pointers.{dataAt, countOf, present, startOf, lengthOf, sectionOf, pointersFrom}
 use Rattle.record.specs.Opening.{openRefusal, opens, openCount, openNumbers}
 use Rattle.fields.specs.declared.Place.the-variants.{At, Refused}
 use Rattle.fields.specs.Lookup.{placeFound, fieldPlace, walkPlace, refusalOf, partBytes}
 use Rattle.fields.proofs.Laws.{place-opened, found-inside}
 use Rattle.bits.specs.Bits.{bitsIn}
+use Rattle.tables.specs.Section2.{tablesIn, tableRight, section2Right}
+use Rattle.rules.specs.LeadRules.{tablesRight}
+use Rattle.leads.specs.LeadTrace.{tablesOf}
 use Rattle.samples.specs.Differences.{differences}
 use Rattle.samples.specs.Trace.{rebuilt, fits16}
 use Rattle.traces.specs.Rebuilding.{rebuild}
@@ -32,7 +35,7 @@ use Rattle.encode.specs.declared.Coded.{Coded}
 use Rattle.encode.specs.Encoding as E
 use Rattle.encode.specs.Encoding.{tablesGiven, tablesGivenRight, foundRefusal, codedAs, outAs, LeadEncoding}
 use Rattle.trip.proofs.Traces.{stream-back}
-use Rattle.trip.proofs.Compose.{given-right}
+use Rattle.trip.proofs.Compose.{meant-right, given-right}
 use Rattle.trip.proofs.Written.{written-back}
 use Rattle.answers.specs.Demands.{AllKept, rowsOpened, rowsLead, Demand2}
 use Rattle.answers.proofs.Laws.{none-broken}
@@ -70,6 +73,17 @@ step-shown : (s : List ℕ) (at : ℕ) (f : Field) → stepAt s at ≡ Found f
     → (fieldsFrom s at ≡ f ∷ fieldsFrom s (f .end)) × (f .start ≤ f .end) × (f .end ≤ length s)
 step-shown s at f e = let w = step-found s at f e in (fields-step s at ∙ ap (onward (fieldsFrom s)) e, w .order, w .end)
 
+-- ---- the tables of a record
+
+record-right : (r : List ℕ) → tablesRight r ≡ true → every (tableRight (length (tablesOf r))) (tablesOf r) ≡ true
+unfolding tablesRight tablesOf every
+record-right r h = go (present r 2) h
+  where
+    go : (b : Bool) → not b || section2Right 1 (sectionOf r 2) dataAt ≡ true
+        → every (tableRight (length (cond b (tablesIn (sectionOf r 2) dataAt) []))) (cond b (tablesIn (sectionOf r 2) dataAt) []) ≡ true
+    go true g = meant-right 1 (sectionOf r 2) dataAt g
+    go false g = refl
+
 -- ---- what encoding a lead answers
 
 -- by what was found, and the number that it gives
@@ -106,7 +120,8 @@ demand2 = record {
   entered = λ r place kept. ap (entryOf r (place - 1)) (lead r place ∙ none-broken (rowsLead r place) 0 kept);
   read = λ r place room work xs out kept e.
       rw (streamed r place room work kept, e) (refl, refl, trace-length r (place - 1) xs (sym e));
-  undone = λ s2 order xs bs right fit. undone (length (tablesGiven s2)) (tablesGiven s2) (given-right s2 right) order xs bs fit;
+  undone = λ r order xs bs right fit. undone (length (tablesOf r)) (tablesOf r) (record-right r right) order xs bs fit;
+  undone-given = λ s2 order xs bs right fit. undone (length (tablesGiven s2)) (tablesGiven s2) (given-right s2 right) order xs bs fit;
   coded-back = λ s2 xs order work out a w o fit e. encoded-back fit e;
   given-back = λ j work out a w o fits f. written-back j work out fits f;
 }

@@ -3,13 +3,14 @@ use Prim.Native.Nat.{ℕ, zero, suc, _-_}
 use mathlib.Core.Path.{_≡_, refl, sym, ap, _∙_}
 use mathlib.Core.Bool.{Bool, true, false, not, _&&_, cond}
 use mathlib.Core.List.{List, [], _∷_, _++_, map}
+use mathlib.Core.Logic.{inl, inr}
 use mathlib.Core.Option.{Option, none, some}
 use native.Mathlib.Omega.{arith}
-use lib.Dec.{eqb}
+use lib.Dec.{leb, eqb}
 use borrow.Author.Tests.{eqb-true, eq-eqb, ne-eqb}
 use lib.IntN.{ℤ, pos}
 use lib.ListN.{length, replicate}
-use Rattle.wire.specs.RuleWords.{every}
+use Rattle.wire.specs.RuleWords.{every, unless}
 use Rattle.header.specs.declared.Step.{Step}
 use Rattle.header.specs.declared.Step.the-variants.{Found, End}
 use Rattle.header.specs.Fields.{fieldsFrom, withTag, occurring}
@@ -24,13 +25,14 @@ use Rattle.rules.specs.LeadRules.{beatSubtracted, tablesRight, sections3To6Righ
 use Rattle.rules.specs.Rows.{rowKept}
 use Rattle.leads.specs.LeadTrace.{traceAt, roomRight, readRefusal, readTrace}
 use Rattle.leads.specs.LeadAnswers.{leadOf, leadAnswer, outAfter, workAfter, entryOf}
+use Rattle.packing.specs.Packing.{bytesFor}
 use Rattle.encode.specs.declared.Coded.{Coded}
 use Rattle.encode.specs.Encoding as E
 use Rattle.encode.specs.Encoding.{LeadEncoding}
 use Rattle.compose.specs.declared.Written.{Written}
 use Rattle.compose.specs.Writing as C
 use Rattle.compose.specs.Writing.{Job, RecordWriting}
-use Rattle.answers.specs.Demands.{firstBroken, allKept, AllKept, rowsOpened, rowsField, rowsLead, rowsRead, rowsAsked, rowsJob, faultOf, refusedLead, refusedEntry, refusedStream, refusedRecord, Demand1}
+use Rattle.answers.specs.Demands.{firstBroken, allKept, AllKept, rowsOpened, rowsField, rowsLead, rowsRead, rowsAsked, rowsJob, faultOf, Later, refusedLead, refusedEntry, refusedStream, refusedRecord, Demand1}
 use Rattle.answers.proofs.Faults.{fault-number}
 use Rattle.answers.proofs.Laws.{none-broken, broken-behind, broken-first, broken-kept}
 
@@ -74,10 +76,10 @@ refused-or : (b : Bool) (n : ℕ) (p : Place) → refusalOf (cond b p (Refused n
 refused-or true n p = refl
 refused-or false n p = refl
 
-field : (r : List ℕ) (tag n : ℕ) → refusalOf (fieldPlace r tag n) ≡ firstBroken (rowsField r tag n) 0
+field : (r : List ℕ) (tag k : ℕ) → refusalOf (fieldPlace r tag k) ≡ firstBroken (rowsField r tag k) 0
 unfolding fieldPlace firstBroken
-field r tag n =
-    let step = occurring n (withTag tag (fieldsFrom (sectionOf r 1) dataAt)) in
+field r tag k =
+    let step = occurring k (withTag tag (fieldsFrom (sectionOf r 1) dataAt)) in
     refused-or (opens r) (openRefusal r) (placeFound (startOf r 1) step)
     ∙ ap (λ (m : ℕ). cond (opens r) m (openRefusal r)) (found step)
     ∙ behind-opened r ((10, foundKeeps anyField step) ∷ [])
@@ -226,6 +228,47 @@ write-asked : {j : Job} {work out : List ℕ} {a : Written} {w o : List ℕ} (n 
 write-asked n (C.refused m e) h = sym e ∙ h
 write-asked n (C.answered founds e F) h = absurd (omega (arith, sym e ∙ h))
 
+-- ---- what can be answered once a stream is looked for
+
+-- a refusal of two rules in a row, or none
+later-by : (a b : Bool) → Later (unless a 16 (unless b 11 0))
+later-by true true = inl refl
+later-by true false = inr (inl refl)
+later-by false b = inr (inr (inr refl))
+
+coded-refusal : (n : ℕ) (found : Option (List ℕ)) → E.codedAs n found .refusal ≡ n
+coded-refusal zero none = refl
+coded-refusal zero (some bs) = refl
+coded-refusal (suc n) found = refl
+
+written-refusal : (j : Job) (n : ℕ) (streams : Option (List (List ℕ))) → C.writtenAs j n streams .refusal ≡ n
+written-refusal j zero none = refl
+written-refusal j zero (some streams) = refl
+written-refusal j (suc n) streams = refl
+
+found-later : (room : ℕ) (found : Option (List ℕ)) → Later (E.foundRefusal room found)
+unfolding E.foundRefusal
+found-later room none = inr (inr (inl refl))
+found-later room (some bs) = later-by (leb (bytesFor (length bs)) 65535) (leb (bytesFor (length bs)) room)
+
+record-later : (j : Job) (room : ℕ) (streams : Option (List (List ℕ))) → Later (C.recordRefusal j room streams)
+unfolding C.recordRefusal
+record-later j room none = inr (inr (inl refl))
+record-later j room (some streams) =
+    later-by (C.allShort streams && leb (length (C.recordOf j streams)) 1048576) (leb (length (C.recordOf j streams)) room)
+
+encode-later : {s2 : List ℕ} {xs : List ℤ} {order : ℕ} {work out : List ℕ} {a : Coded} {w o : List ℕ} → LeadEncoding s2 xs order work out a w o
+    → E.askedRefusal s2 (length xs) order (length work) ≡ 0 → Later (a .refusal)
+encode-later (E.refused n e) h = absurd (omega (arith, sym e ∙ h))
+encode-later {out = out} (E.answered found e F) h = rw (coded-refusal (E.foundRefusal (length out) found) found) (found-later (length out) found)
+
+write-later : {j : Job} {work out : List ℕ} {a : Written} {w o : List ℕ} → RecordWriting j work out a w o → C.jobRefusal j (length work) ≡ 0
+    → Later (a .refusal)
+write-later (C.refused n e) h = absurd (omega (arith, sym e ∙ h))
+write-later {j = j} {out = out} (C.answered founds e F) h =
+    let streams = C.packedAll founds in
+    rw (written-refusal j (C.recordRefusal j (length out) streams) streams) (record-later j (length out) streams)
+
 -- ---- a row asked alone
 
 alone : (r : List ℕ) (place : ℕ)
@@ -246,9 +289,13 @@ demand1 = record {
   faults = fault-number;
   coding = λ s2 xs order work out a w o n f h. encode-asked n f (coding-first s2 (length xs) order (length work) ∙ h);
   writing = λ j work out a w o n f h. write-asked n f (writing-first j (length work) ∙ h);
+  coding-later = λ s2 xs order work out a w o f kept.
+      encode-later f (eqb-true (E.askedRefusal s2 (length xs) order (length work)) 0 (sym (coding-kept s2 (length xs) order (length work)) ∙ kept));
+  writing-later = λ j work out a w o f kept.
+      write-later f (eqb-true (C.jobRefusal j (length work)) 0 (sym (writing-kept j (length work)) ∙ kept));
   alone = alone;
   not-opened = not-opened;
-  not-walked = λ r n e. not-shown r n (walkPlace r) e .0;
+  not-walked = λ r n. not-shown r n (walkPlace r);
   not-shown = λ r tag k n. not-shown r n (fieldPlace r tag k);
   not-entered = λ r place n. not-entered r (place - 1) (leadRefusal r place) n;
   not-read = λ r place n room work out. not-read r (place - 1) n (readTrace r place room work) out;

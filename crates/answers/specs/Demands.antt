@@ -1,10 +1,11 @@
--- The customer's three demands, stated in full over what the contracts of the public calls say (crates/scp/src/lib.rt): the right sides
--- of their equations, and the relations LeadEncoding and RecordWriting. 01 cites the demands by number; their own words stand here behind
+-- The customer's three demands, stated in full over what the contracts of the public calls say (crates/scp/src/lib.rt; `field` of
+-- crates/fields; the walker): the right sides of their equations, and the relations LeadEncoding and RecordWriting. 01 cites the demands by number; their own words stand here behind
 -- a ">", each clause above the lines that state it.
 --
 -- The names below. r is the bytes of a record, and `place` a lead's place in it, from 1. s2 is Section 2's data as the writer is given
 -- them, xs a lead's samples, j a job. `work` and `out` are the work space and the output before a call; a is what the call answered, w
--- the work space and o the output after it. `room` is how many elements an output has that is lent to the reader.
+-- the work space and o the output after it. `room` is how many elements an output has that is lent to the reader; where `work` is a
+-- number, it is how many the work space has. A field is the k-th with its tag, from 1; a refusal that is `suc n` is not 0.
 --
 -- > Any bytes and any numbers may come in, and every call ends.
 -- The checker accepts a function only if it ends, for all that may come in; no call has a condition on its caller. It also accepts none
@@ -41,7 +42,7 @@ use Rattle.rules.specs.LeadRules.{tablesRight, beatSubtracted, sections3To6Righ
 use Rattle.rules.specs.Rows.{rowKept}
 use Rattle.leads.specs.declared.Lead.{Lead}
 use Rattle.leads.specs.declared.Entry.{Entry}
-use Rattle.leads.specs.LeadTrace.{sampleCountAt, traceAt, roomRight, readTrace}
+use Rattle.leads.specs.LeadTrace.{tablesOf, sampleCountAt, traceAt, roomRight, readTrace}
 use Rattle.leads.specs.LeadAnswers.{leadAnswer, outAfter, workAfter, entryOf, entryAnswer}
 use Rattle.packing.specs.Packing.{bytesFor, packed}
 use Rattle.paths.specs.Before.{Before}
@@ -73,10 +74,10 @@ abbrev pub rowsOpened : List ℕ → List (ℕ × Bool)
 rowsOpened r =
     (1, lengthRight r) ∷ (2, recordCheckRight r) ∷ (3, section0Right r) ∷ (4, allPlacedRight r) ∷ (5, checksRight r) ∷ (6, fieldsRight r) ∷ []
 
--- and 10, asked where a field is: an occurrence of a tag
+-- and 10, asked where a field is: the k-th with a tag
 abbrev pub rowsField : List ℕ → ℕ → ℕ → List (ℕ × Bool)
-rowsField r tag n =
-    rowsOpened r ++ ((10, foundKeeps anyField (occurring n (withTag tag (fieldsFrom (sectionOf r 1) dataAt)))) ∷ [])
+rowsField r tag k =
+    rowsOpened r ++ ((10, foundKeeps anyField (occurring k (withTag tag (fieldsFrom (sectionOf r 1) dataAt)))) ∷ [])
 
 -- rows 1 to 10, asked of the lead at a place; and 1 to 11, with so much room and work space lent
 abbrev pub rowsLead : List ℕ → ℕ → List (ℕ × Bool)
@@ -100,6 +101,10 @@ abbrev pub faultOf : Trace → ℕ
 faultOf (rebuilt xs) = 0
 faultOf (fault number) = number
 
+-- what can be answered once a stream is looked for
+abbrev pub Later : ℕ → Type 0
+Later n = (n ≡ 0) ⊎ (n ≡ 11) ⊎ (n ≡ 15) ⊎ (n ≡ 16)
+
 -- ---- answers that hold a refusal and nothing else
 
 abbrev pub refusedLead : ℕ → Lead
@@ -118,29 +123,35 @@ refusedRecord n = record { refusal = n; bytes = 0 }
 
 pub record Demand1 : Type 0 where
   -- > A refusal is one number from 01's table, given exactly when its rule says.
-  -- Opening, starting a walk, a field, a lead's entry: the smallest row that is broken
+  -- Opening, starting a walk, a field, a lead's entry: the smallest row that is broken, and 0 where none is
   pub opening : (r : List ℕ) → openRefusal r ≡ firstBroken (rowsOpened r) 0
   pub walk : (r : List ℕ) → refusalOf (walkPlace r) ≡ firstBroken (rowsOpened r) 0
-  pub field : (r : List ℕ) (tag n : ℕ) → refusalOf (fieldPlace r tag n) ≡ firstBroken (rowsField r tag n) 0
+  pub field : (r : List ℕ) (tag k : ℕ) → refusalOf (fieldPlace r tag k) ≡ firstBroken (rowsField r tag k) 0
   pub entry : (r : List ℕ) (place : ℕ) → entryAnswer r place .refusal ≡ firstBroken (rowsLead r place) 0
-  -- reading a lead, 1 to 14: the smallest row of 1 to 11 that is broken; where all are kept, the first fault that its streams have, which
-  -- is 12, 13 or 14
+  -- reading a lead, 1 to 14: the smallest row of 1 to 11 that is broken; where all are kept, the first fault that its streams or the sums
+  -- have, which is 12, 13 or 14
   pub reading : (r : List ℕ) (place room work : ℕ)
       → leadAnswer r place room work .refusal ≡ firstBroken (rowsRead r place room work) (faultOf (traceAt r (place - 1)))
   pub faults : (r : List ℕ) (k n : ℕ) → traceAt r k ≡ fault n → (n ≡ 12) ⊎ (n ≡ 13) ⊎ (n ≡ 14)
   -- encoding a lead and writing a record: the first of 17, 7 and 11, and of 17, 6, 7 and 11, that applies; where none does, a stream is
-  -- looked for, and the third demand says when 15, 16 and 11 for the output are given
+  -- looked for, and nothing but 15, 16 and 11 for the output can be given: the third demand says when
   pub coding : (s2 : List ℕ) (xs : List ℤ) (order : ℕ) (work out : List ℕ) (a : Coded) (w o : List ℕ) (n : ℕ)
       → LeadEncoding s2 xs order work out a w o → firstBroken (rowsAsked s2 (length xs) order (length work)) 0 ≡ suc n → a .refusal ≡ suc n
   pub writing : (j : Job) (work out : List ℕ) (a : Written) (w o : List ℕ) (n : ℕ) → RecordWriting j work out a w o
       → firstBroken (rowsJob j (length work)) 0 ≡ suc n → a .refusal ≡ suc n
-  -- a row from 1 to 9 that is asked alone is the row that opening and reading ask: the smallest that is not kept is their refusal
+  pub coding-later : (s2 : List ℕ) (xs : List ℤ) (order : ℕ) (work out : List ℕ) (a : Coded) (w o : List ℕ)
+      → LeadEncoding s2 xs order work out a w o → AllKept (rowsAsked s2 (length xs) order (length work)) → Later (a .refusal)
+  pub writing-later : (j : Job) (work out : List ℕ) (a : Written) (w o : List ℕ) → RecordWriting j work out a w o
+      → AllKept (rowsJob j (length work)) → Later (a .refusal)
+  -- a row from 1 to 9 that is asked alone is the row that opening and reading ask. So the smallest that is not kept is the refusal: of 1 to
+  -- 6 that of opening, of 1 to 9 that of reading
   pub alone : (r : List ℕ) (place : ℕ)
       → rowsLead r place
       ≡ map (λ row. (row, rowKept r row)) (1 ∷ 2 ∷ 3 ∷ 4 ∷ 5 ∷ 6 ∷ 7 ∷ 8 ∷ 9 ∷ []) ++ ((10, hasLead r place) ∷ [])
   -- > It shows no trace or field and changes no lent byte,
   pub not-opened : (r lent : List ℕ) (n : ℕ) → openRefusal r ≡ suc n → (openCount r ≡ 0) × (openNumbers r lent ≡ lent)
-  pub not-walked : (r : List ℕ) (n : ℕ) → refusalOf (walkPlace r) ≡ suc n → walkPlace r ≡ Refused (suc n)
+  pub not-walked : (r : List ℕ) (n : ℕ) → refusalOf (walkPlace r) ≡ suc n
+      → (walkPlace r ≡ Refused (suc n)) × (partBytes r (walkPlace r) ≡ [])
   pub not-shown : (r : List ℕ) (tag k n : ℕ) → refusalOf (fieldPlace r tag k) ≡ suc n
       → (fieldPlace r tag k ≡ Refused (suc n)) × (partBytes r (fieldPlace r tag k) ≡ [])
   pub not-entered : (r : List ℕ) (place n : ℕ) → entryAnswer r place .refusal ≡ suc n → entryAnswer r place ≡ refusedEntry (suc n)
@@ -182,9 +193,9 @@ pub record Demand2 : Type 0 where
   pub opened : (r lent : List ℕ) → AllKept (rowsOpened r)
       → (openRefusal r ≡ 0) × (openCount r ≡ countOf r) × (openNumbers r lent ≡ pointersFrom r 0 (countOf r) ++ drop (3 * countOf r) lent)
   -- and every field that stands in its Section 1 is shown, byte for byte
-  pub shown : (r : List ℕ) (tag n : ℕ) (f : Field) → AllKept (rowsOpened r)
-      → occurring n (withTag tag (fieldsFrom (sectionOf r 1) dataAt)) ≡ Found f
-      → (refusalOf (fieldPlace r tag n) ≡ 0) × (partBytes r (fieldPlace r tag n) ≡ part r (startOf r 1 + f .start) (startOf r 1 + f .end))
+  pub shown : (r : List ℕ) (tag k : ℕ) (f : Field) → AllKept (rowsOpened r)
+      → occurring k (withTag tag (fieldsFrom (sectionOf r 1) dataAt)) ≡ Found f
+      → (refusalOf (fieldPlace r tag k) ≡ 0) × (partBytes r (fieldPlace r tag k) ≡ part r (startOf r 1 + f .start) (startOf r 1 + f .end))
   -- a walk is over Section 1 whole, and its steps meet the fields one after another, each of them whole
   pub walked : (r : List ℕ) → AllKept (rowsOpened r) → (refusalOf (walkPlace r) ≡ 0) × (partBytes r (walkPlace r) ≡ sectionOf r 1)
   pub step-found : (s : List ℕ) (at : ℕ) (f : Field) → stepAt s at ≡ Found f
@@ -207,8 +218,10 @@ pub record Demand2 : Type 0 where
         count = length xs;
       }) × (outAfter (readTrace r place room work) out ≡ xs ++ drop (length xs) out) × (length xs ≡ sampleCountAt r (place - 1))
   -- rebuilding undoes the differences: bits are rebuilt to samples of 16 bits exactly if reading value after value takes them to the
-  -- differences of the samples, with fewer than 8 bits behind
-  pub undone : (s2 : List ℕ) (order : ℕ) (xs : List ℤ) (bs : List ℕ) → tablesGivenRight s2 ≡ true → every fits16 xs ≡ true
+  -- differences of the samples, with fewer than 8 bits behind; by a record's own tables, and by those that the writer is given
+  pub undone : (r : List ℕ) (order : ℕ) (xs : List ℤ) (bs : List ℕ) → tablesRight r ≡ true → every fits16 xs ≡ true
+      → StreamFor (tablesOf r) order xs bs ↔ BeginsWithStream (tablesOf r) order xs bs
+  pub undone-given : (s2 : List ℕ) (order : ℕ) (xs : List ℤ) (bs : List ℕ) → tablesGivenRight s2 ≡ true → every fits16 xs ≡ true
       → StreamFor (tablesGiven s2) order xs bs ↔ BeginsWithStream (tablesGiven s2) order xs bs
   -- > What our writer accepts and writes, our reader gives back the same.
   -- First a lead that is encoded, then a record that is written
@@ -236,7 +249,7 @@ pub record EncodingDue (tables : List (List Structure)) (order : ℕ) (xs : List
   -- 11 exactly if it needs no more, and the output has no room for it
   pub no-room : (a .refusal ≡ 11)
       ↔ ((bs : List ℕ) × FewestBits tables order xs bs × (bytesFor (length bs) ≤ 65535) × (length out < bytesFor (length bs)))
-  -- and it is accepted exactly if it fits. Then its bytes and bits are answered, and the output begins with it, as it was behind it
+  -- and it is accepted exactly if it fits. Then its bytes and bits are answered, and the output begins with it and is as it was behind it
   pub coded : (a .refusal ≡ 0)
       ↔ ((bs : List ℕ) × FewestBits tables order xs bs × (bytesFor (length bs) ≤ 65535) × (bytesFor (length bs) ≤ length out))
   pub answered : (bs : List ℕ) → FewestBits tables order xs bs → a .refusal ≡ 0
@@ -284,7 +297,7 @@ pub record Demand3 : Type 0 where
       → tablesGivenRight s2 ≡ true → 1 ≤ length xs → length xs ≤ 65536 → every fits16 xs ≡ true → order ≤ 2
       → length xs * length (tablesGiven s2) ≤ length work → LeadEncoding s2 xs order work out a w o
       → EncodingDue (tablesGiven s2) order xs out a o
-  -- and every job that is asked right
+  -- and every job that keeps 17, 6, 7 and 11 for work space
   pub writing : (j : Job) (work out : List ℕ) (a : Written) (w o : List ℕ) → JobFits j → AllKept (rowsJob j (length work))
       → RecordWriting j work out a w o → WritingDue j out a o
 

@@ -8,7 +8,7 @@ use lib.ListN.{getD, List·getD-map}
 use Rattle.wire.specs.RuleWords.{every}
 use Rattle.bits.specs.Bits.{lowFirst, begins}
 use Rattle.tables.specs.Structures.{prefixOf, modeRight, structureRight, apart, prefixFree, noStructure}
-use Rattle.tables.specs.Default.{defaultTable, twoValues, valued, ones, codeOf, runs}
+use Rattle.tables.specs.Default.{defaultTable, twoValues, valued, ones, codeOf, runs, DefaultRule}
 use Rattle.tables.specs.Section2.{tableRight}
 use Rattle.tables.proofs.Laws.{table-right, free-at}
 
@@ -22,11 +22,14 @@ pub default-right : tableRight 1 defaultTable ≡ true
 default-right = passes .0
 
 -- no prefix begins another: any two places
-pub default-free : (j k : ℕ) → j < k → k < 19 → apart (getD defaultTable j noStructure) (getD defaultTable k noStructure) ≡ true
+free : (j k : ℕ) → j < k → k < 19 → apart (getD defaultTable j noStructure) (getD defaultTable k noStructure) ≡ true
 unfolding defaultTable twoValues
-default-free = free-at defaultTable (table-right 1 defaultTable default-right .free)
+free = free-at defaultTable (table-right 1 defaultTable default-right .free)
 
 -- the run of ones at each place
-pub default-run : (k : ℕ) → prefixOf (getD defaultTable k noStructure) ≡ getD runs k []
+run : (k : ℕ) → prefixOf (getD defaultTable k noStructure) ≡ getD runs k []
 unfolding lowFirst
-default-run k = sym (List·getD-map prefixOf defaultTable k noStructure) ∙ ap (λ (l : List (List ℕ)). getD l k []) (passes .1)
+run k = sym (List·getD-map prefixOf defaultTable k noStructure) ∙ ap (λ (l : List (List ℕ)). getD l k []) (passes .1)
+
+pub default-rule : DefaultRule
+default-rule = record { free = free; run = run }

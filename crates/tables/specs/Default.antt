@@ -1,9 +1,12 @@
 -- The default table (01, Code tables), by the runs of ones that its prefixes begin with. The value 0 has no run: its prefix is one bit,
 -- 0. A value of size 1 to 8 has a run as long as its size, then 0, then a bit for the sign, 1 if it is negative. A run of nine, ended
 -- by 0, stands before 8 bits of remainder, and a run of ten, with nothing to end it, before 16.
-use Prim.Native.Nat.{ℕ, _+_, _-_, _*_}
+use Prim.Native.Nat.{ℕ, _+_, _-_, _*_, _<_}
+use mathlib.Core.Path.{_≡_}
+use mathlib.Core.Bool.{true}
 use mathlib.Core.List.{List, [], _∷_, _++_}
-use lib.ListN.{length, replicate}
+use lib.ListN.{length, getD, replicate}
+use Rattle.tables.specs.Structures.{noStructure, prefixOf, apart}
 use Rattle.tables.specs.declared.Structure.{Structure}
 
 -- the base code of a prefix: its first bit is the lowest
@@ -56,3 +59,9 @@ runs =
     ++ (twoRuns 4
     ++ (twoRuns 5
     ++ (twoRuns 6 ++ (twoRuns 7 ++ (twoRuns 8 ++ ((ones 9 ++ (0 ∷ [])) ∷ (ones 10 ∷ []))))))))))
+
+-- one test over the whole table gives both at every place (01, The forms we expect): no prefix begins another or equals it, and each is
+-- its run of ones and what ends it
+pub record DefaultRule : Type 0 where
+  pub free : (j k : ℕ) → j < k → k < 19 → apart (getD defaultTable j noStructure) (getD defaultTable k noStructure) ≡ true
+  pub run : (k : ℕ) → prefixOf (getD defaultTable k noStructure) ≡ getD runs k []

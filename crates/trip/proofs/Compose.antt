@@ -78,20 +78,26 @@ job-right j h =
 
 -- ---- rule 7
 
+-- the tables that data mean are right where the data keep their rule
+pub meant-right : (spare : ℕ) (s : List ℕ) (at : ℕ) → section2Right spare s at ≡ true
+    → every (tableRight (length (tablesIn s at))) (tablesIn s at) ≡ true
+unfolding tablesIn every
+meant-right spare s at g = own (isDefault s at) refl
+  where
+    own : (b : Bool) → isDefault s at ≡ b
+        → every (tableRight (length (cond b (defaultTable ∷ []) (tablesFrom s (at + 2) (tableCount s at)))))
+        (cond b (defaultTable ∷ []) (tablesFrom s (at + 2) (tableCount s at))) ≡ true
+    own true e = rw default-right
+    own false e = rw (length-tables s (at + 2) (tableCount s at)) (own-tables spare s at g e .right)
+
 -- given tables are right
 pub given-right : (s : List ℕ) → tablesGivenRight s ≡ true → every (tableRight (length (tablesGiven s))) (tablesGiven s) ≡ true
-unfolding tablesGivenRight tablesGiven tablesIn every
+unfolding tablesGivenRight tablesGiven every
 given-right s g = go (eqb (length s) 0) g
   where
-    own : (b : Bool) → section2Right 0 s 0 ≡ true → isDefault s 0 ≡ b
-        → every (tableRight (length (cond b (defaultTable ∷ []) (tablesFrom s 2 (tableCount s 0)))))
-        (cond b (defaultTable ∷ []) (tablesFrom s 2 (tableCount s 0))) ≡ true
-    own true g e = rw default-right
-    own false g e = rw (length-tables s 2 (tableCount s 0)) (own-tables 0 s 0 g e .right)
-
     go : (b : Bool) → b || section2Right 0 s 0 ≡ true → every (tableRight (length (cond b [] (tablesIn s 0)))) (cond b [] (tablesIn s 0)) ≡ true
     go true g = refl
-    go false g = own (isDefault s 0) g refl
+    go false g = meant-right 0 s 0 g
 
 -- ---- the samples of the leads
 

@@ -29,7 +29,8 @@ behindHeader f = record { tag = f .tag; start = dataAt + f .start; end = dataAt 
 abbrev pub samplesOf : Job → ℕ → List ℤ
 samplesOf j k = getD (cut (j .counts) (j .samples)) k []
 
--- a job's numbers are such as can be lent: step and interval of two bytes, samples of 16 bits; of its bytes nothing is asked
+-- a job's numbers are such as can be lent: step and interval of two bytes, samples of 16 bits; nothing is asked of its other numbers and
+-- its bytes
 pub record JobFits (j : Job) : Type 0 where
   pub step : j .step < 65536
   pub interval : j .interval < 65536
@@ -58,7 +59,7 @@ pub record GivenBack (j : Job) (r : List ℕ) : Type 0 where
         first = getD (j .firsts) k 0;
         count = getD (j .counts) k 0;
       }
-  -- its entry too says what the job does, beside the bytes of its stream
+  -- its entry too says what the job does, all but the bytes of its stream, which the third demand fixes
   pub entries : (k : ℕ) → k < length (j .counts) → (bytes : ℕ)
       × (entryAnswer r (k + 1)
       ≡ record {

@@ -18,7 +18,7 @@ use Rattle.record.specs.RecordRules.{lengthRight, recordCheckRight, lettersRigh
 use Rattle.record.specs.Opening.{openRefusal, opens}
 use Rattle.fields.specs.declared.Place.the-variants.{At, Refused}
 use Rattle.fields.specs.Lookup.{walkPlace, partBytes}
-use Rattle.walker.specs.Walk.{shownBy, shownField}
+use Rattle.walker.specs.Walk.{shownBy, shownField, WalkShows}
 
 -- Section 0 of a record that keeps its rule has a pointer to Section 1
 counted : (r : List ℕ) → section0Right r ≡ true → 1 < countOf r
@@ -82,12 +82,15 @@ shown-from (suc n) s at h = go (λ e. shown-from n s e) (stepAt s at) refl
         rw (fields-step s at, e, later (f .end) (omega arith))
 
 -- from the start of an opened record these are the fields of Section 1, in their order, none left out
-pub walk-shows-all : (n : ℕ) (r : List ℕ) → opens r ≡ true → length (sectionOf r 1) ≤ n
+shows-all : (n : ℕ) (r : List ℕ) → opens r ≡ true → length (sectionOf r 1) ≤ n
     → shownBy n (partBytes r (walkPlace r)) dataAt ≡ map (shownField (sectionOf r 1)) (fieldsFrom (sectionOf r 1) dataAt)
 unfolding walkPlace sectionOf
-walk-shows-all n r o h = rw o (shown-from n (sectionOf r 1) dataAt (omega arith))
+shows-all n r o h = rw o (shown-from n (sectionOf r 1) dataAt (omega arith))
 
 -- a walk that is refused is at its end
-pub refused-shows-end : (r : List ℕ) → opens r ≡ false → stepAt (partBytes r (walkPlace r)) dataAt ≡ End
+refused-end : (r : List ℕ) → opens r ≡ false → stepAt (partBytes r (walkPlace r)) dataAt ≡ End
 unfolding walkPlace
-refused-shows-end r o = rw o (step-past [] dataAt (omega arith))
+refused-end r o = rw o (step-past [] dataAt (omega arith))
+
+pub walk-shows : WalkShows
+walk-shows = record { all = shows-all; refused = refused-end }

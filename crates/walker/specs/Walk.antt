@@ -1,11 +1,16 @@
 -- What a step of the walk shows of Section 1 (01, Header fields and the patient identifier), and where the next step stands.
-use Prim.Native.Nat.{ℕ, zero, suc}
+use Prim.Native.Nat.{ℕ, zero, suc, _≤_}
+use mathlib.Core.Path.{_≡_}
 use mathlib.Core.Bool.{Bool, true, false, cond}
-use mathlib.Core.List.{List, [], _∷_}
+use mathlib.Core.List.{List, [], _∷_, map}
+use lib.ListN.{length}
 use Rattle.header.specs.declared.Field.{Field}
 use Rattle.header.specs.declared.Step.{Step}
 use Rattle.header.specs.declared.Step.the-variants.{Found, End}
-use Rattle.header.specs.Fields.{stepAt, shownBytes, fieldBytes}
+use Rattle.header.specs.Fields.{stepAt, fieldsFrom, shownBytes, fieldBytes}
+use Rattle.pointers.specs.Pointers.{dataAt, sectionOf}
+use Rattle.record.specs.Opening.{opens}
+use Rattle.fields.specs.Lookup.{walkPlace, partBytes}
 
 -- a field is shown, or the end
 abbrev pub shownMore : Step → Bool
@@ -37,3 +42,10 @@ shownBy (suc steps) s at =
 -- a field as a step shows it: its tag and its bytes
 abbrev pub shownField : List ℕ → Field → ℕ × List ℕ
 shownField s f = (f .tag, fieldBytes s f)
+
+-- a walk of an opened record, from its start, shows every field of Section 1 in their order, none left out; one that is refused is at its
+-- end, and shows nothing
+pub record WalkShows : Type 0 where
+  pub all : (n : ℕ) (r : List ℕ) → opens r ≡ true → length (sectionOf r 1) ≤ n
+      → shownBy n (partBytes r (walkPlace r)) dataAt ≡ map (shownField (sectionOf r 1)) (fieldsFrom (sectionOf r 1) dataAt)
+  pub refused : (r : List ℕ) → opens r ≡ false → stepAt (partBytes r (walkPlace r)) dataAt ≡ End
