@@ -19,8 +19,8 @@ unfoldable pub beatPlaceFrom : List ℕ → ℕ → ℕ → ℕ → ℕ
 beatPlaceFrom s zero k n = 0
 beatPlaceFrom s (suc zones) k n = cond (inZone s k n) (n + fiducialOf s - qrsFiducial s k) (beatPlaceFrom s zones (k + 1) n)
 
--- the same by all zones of the section. Zones of type 0 do not overlap, so that sample n stands in
--- one at most; no other type adds anything
+-- the same by all zones of the section. Zones of type 0 do not overlap, so that sample n stands in one at most; no other type adds
+-- anything
 unfoldable pub beatPlace : List ℕ → ℕ → ℕ
 beatPlace s n = beatPlaceFrom s (qrsCount s) 0 n
 

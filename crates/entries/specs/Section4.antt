@@ -35,8 +35,8 @@ zoneEnd s k = numberAt 4 s (32 + 14 * k)
 unfoldable pub samplesInBeat : ℕ → ℕ → ℕ
 samplesInBeat ms interval = 1000 * ms / interval
 
--- SE of the nearest zone of type 0 before the k-th, which is the largest SE so far where those zones
--- keep their rule; 0 where there is none
+-- SE of the nearest zone of type 0 before the k-th, which is the largest SE so far where those zones keep their rule; 0 where there is
+-- none
 unfoldable pub lastBefore : List ℕ → ℕ → ℕ
 lastBefore s zero = 0
 lastBefore s (suc k) = cond (eqb (qrsType s k) 0) (zoneEnd s k) (lastBefore s k)

@@ -39,8 +39,8 @@ idRight r k = cond (ltb k 12) (eqb (idOf r k) k) (ltb (idOf r (k - 1)) (idOf r k
 unfoldable pub ownPointerRight : List ℕ → Bool
 ownPointerRight r = eqb (lengthOf r 0) (section0Length r) && eqb (indexOf r 0) 7
 
--- 3: Section 0 has ID 0, the letters, and 12 to 64 whole pointers (`countOf` never says more) with nothing behind them; it lies in the record, its own pointer is
--- right, and the pointers' IDs are in order
+-- 3: Section 0 has ID 0, the letters, and 12 to 64 whole pointers (`countOf` never says more) with nothing behind them; it lies in the
+-- record, its own pointer is right, and the pointers' IDs are in order
 unfoldable pub section0Right : List ℕ → Bool
 section0Right r =
     eqb (numberAt 2 r 8) 0
