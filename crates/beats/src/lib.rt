@@ -43,10 +43,10 @@ fn beat_by(s: &[u8], beat: &[i16], zones: usize, k: usize, n: usize) -> usize
     ensures { λ r. ⌜ (lower 32768 r ≡ beatValueAt (now (beat .entry)) (beatPlaceFrom (now (s .entry)) (zones - k) k n)) × (r < 65536) ⌝ }
 {
     if k == zones {
-        return 32768;
+        return bits::SAMPLE_ZERO;
     }
     if n < entries::zone_begin(s, k) {
-        return 32768;
+        return bits::SAMPLE_ZERO;
     }
     let place = n + entries::fiducial_of(s) - entries::zone_fiducial(s, k);
     samples::raised(beat[place - 1])
@@ -71,7 +71,7 @@ pub fn add_beat(s: &[u8], beat: &[i16], first: usize, room: &mut [i16]) -> u8
         if 98304 <= y {
             return 13;
         }
-        room[i] = samples::lowered(y - 32768);
+        room[i] = samples::lowered(y - bits::SAMPLE_ZERO);
         i += 1;
     }
     0

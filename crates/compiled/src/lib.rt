@@ -13,6 +13,16 @@ ghost use Rattle.tables.specs.Section2.{section2Right, tablesIn, tablesFrom, ta
 ghost use Rattle.compiled.specs.InnerForm.{lowest, beyond, formOf, formAt, numbersOf, Says, Beside, SameTables, Ready};
 use tables::Structure;
 
+// How many numbers a table takes: its number of structures, then six for each of up to 64.
+pub const TABLE: usize = 385;
+
+// Behind eight tables come the guesses, so many for each table: one for each first eight bits.
+const GUESSES: usize = 3080;
+const GUESSES_OF_A_TABLE: usize = 256;
+
+// How many numbers all of that takes.
+pub const ROOM: usize = 5128;
+
 // A structure as the engines hold it.
 pub struct Form {
     pub prefix: usize,
@@ -29,9 +39,9 @@ fn lowest_of(base: usize, remainder: usize) -> usize
     ensures { λ r. ⌜ r ≡ lowest base remainder ⌝ }
 {
     if remainder == 0 {
-        return (base + 32768) % 65536 + 98304;
+        return (base + bits::SAMPLE_ZERO) % 65536 + 98304;
     }
-    131072 - bits::power(remainder - 1)
+    bits::VALUE_ZERO - bits::power(remainder - 1)
 }
 
 // The first value past those that it serves, 131,072 added.
@@ -40,9 +50,9 @@ fn beyond_of(base: usize, remainder: usize) -> usize
     ensures { λ r. ⌜ r ≡ beyond base remainder ⌝ }
 {
     if remainder == 0 {
-        return (base + 32768) % 65536 + 98305;
+        return (base + bits::SAMPLE_ZERO) % 65536 + 98305;
     }
-    131072 + bits::power(remainder - 1)
+    bits::VALUE_ZERO + bits::power(remainder - 1)
 }
 
 // A structure's form.
@@ -79,7 +89,7 @@ pub fn form_at(tab: &[u32], t: usize, k: usize) -> Form
     requires { ⌜ (length (now tab) ≡ 5128) × (t < 8) × (k < 64) ⌝ }
     ensures { λ r. ⌜ r ≡ formAt (now (tab .entry)) t k ⌝ }
 {
-    let o = t * 385 + k * 6;
+    let o = t * TABLE + k * 6;
     Form {
         prefix: tab[o + 1] as usize,
         remainder: tab[o + 2] as usize,
@@ -98,7 +108,7 @@ fn put_form(tab: &mut [u32], t: usize, k: usize, f: Form)
     ensures { λ _. ⌜ now (tab .exit) ≡ take (t * 385 + 1 + k * 6) (now (tab .entry)) ++
         (numbersOf f ++ drop (t * 385 + 7 + k * 6) (now (tab .entry))) ⌝ }
 {
-    let o = t * 385 + k * 6;
+    let o = t * TABLE + k * 6;
     tab[o + 1] = f.prefix as u32;
     tab[o + 2] = f.remainder as u32;
     tab[o + 3] = f.to as u32;
@@ -113,7 +123,7 @@ fn put_table(s: &[u8], o: usize, n: usize, tables: usize, tab: &mut [u32], t: us
     requires { ⌜ every (structureRight tables) (structuresAt (now s) o n) ≡ true ⌝ }
     ensures { λ _. ⌜ Says (structuresAt (now (s .entry)) o n) (now (tab .exit)) t × Beside (now (tab .entry)) (now (tab .exit)) t ⌝ }
 {
-    tab[t * 385] = n as u32;
+    tab[t * TABLE] = n as u32;
     let mut from = o;
     let mut k = 0;
     while k < n {
@@ -144,7 +154,7 @@ fn put_none(tab: &mut [u32], n: usize)
 {
     let mut t = n;
     while t < 8 {
-        tab[t * 385] = 0;
+        tab[t * TABLE] = 0;
         t += 1;
     }
 }
@@ -198,7 +208,7 @@ fn put_guess(tab: &mut [u32], t: usize, k: usize)
     }
     let mut b = 0;
     while b < many {
-        tab[3080 + t * 256 + from + b] = mark;
+        tab[GUESSES + t * GUESSES_OF_A_TABLE + from + b] = mark;
         b += 1;
     }
 }
@@ -208,7 +218,7 @@ fn put_guesses(tab: &mut [u32], t: usize)
     requires { ⌜ (length (now tab) ≡ 5128) × (t < 8) ⌝ }
     ensures { λ _. ⌜ SameTables (now (tab .entry)) (now (tab .exit)) ⌝ }
 {
-    let n = tab[t * 385] as usize;
+    let n = tab[t * TABLE] as usize;
     if 64 < n {
         return;
     }
@@ -247,6 +257,6 @@ pub fn guess(tab: &[u32], t: usize, w: u64) -> usize
     requires { ⌜ (length (now tab) ≡ 5128) × (t < 8) ⌝ }
     ensures { λ r. ⌜ r ≡ getD (now (tab .entry)) (3080 + t * 256 + w / 2 ^ 56) 0 ⌝ }
 {
-    let from = 3080 + t * 256;
+    let from = GUESSES + t * GUESSES_OF_A_TABLE;
     pointed(&tab[from..from + 256], w)
 }

@@ -45,7 +45,7 @@ fn lead_asked(firsts: &[u32], counts: &[u32], k: usize) -> bool
     if count < 1 {
         return false;
     }
-    if 65536 < count {
+    if wire::MOST_SAMPLES < count {
         return false;
     }
     if first < 1 {
@@ -164,10 +164,10 @@ fn job_refusal(
 fn number_with(bits: usize, later: u8) -> u8
     ensures { λ r. ⌜ ((found : Option (List ℕ)) → bits ≡ bitsFound found → r ≡ numberWith found later) ⌝ }
 {
-    if 524281 < bits {
+    if search::TOO_LONG < bits {
         return 15;
     }
-    if bits < 524281 {
+    if bits < search::TOO_LONG {
         return later;
     }
     if later == 15 {
@@ -336,15 +336,15 @@ fn record_size(count1: usize, count2: usize, sizes: &[u32]) -> usize
     requires { ⌜ length (now sizes) ≤ 32 ⌝ }
     ensures { λ r. ⌜ r ≡ min 1048577 (sizeWith count1 count2 (now (sizes .entry))) ⌝ }
 {
-    if 1048576 < count1 {
+    if wire::MOST_BYTES < count1 {
         return 1048577;
     }
-    if 1048576 < count2 {
+    if wire::MOST_BYTES < count2 {
         return 1048577;
     }
     let front = front_size(count1, count2, sizes.len());
     let size = front + size_for(6 + 2 * sizes.len() + total_of(sizes));
-    if 1048576 < size {
+    if wire::MOST_BYTES < size {
         return 1048577;
     }
     size
@@ -367,7 +367,7 @@ fn judged(number: u8, count1: usize, count2: usize, sizes: &[u32], room: usize) 
         return refused(number);
     }
     let size = record_size(count1, count2, sizes);
-    if 1048576 < size {
+    if wire::MOST_BYTES < size {
         return refused(16);
     }
     if room < size {

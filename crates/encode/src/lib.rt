@@ -19,11 +19,6 @@ ghost use Rattle.encode.specs.InnerEncode.{codeOf, Going, HeldBy, bitsFo
 use compiled::Form;
 use packing::Sink;
 
-// One more than the bits of 65,535 bytes, where the count of bits stops; and no stream.
-const CAP: usize = 524281;
-
-const NONE: usize = 524282;
-
 // What encoding a lead answers: 0 or a refusal number, and on a refusal nothing else; the stream's bytes and bits.
 #[repr(C)]
 pub struct Coded {
@@ -131,18 +126,18 @@ fn plain_bits(xs: &[i16], order: usize) -> usize
     while i < xs.len() {
         let v = samples::value_at(xs, order, i);
         if v < 98304 {
-            return NONE;
+            return search::NO_STREAM;
         }
         if 163840 <= v {
-            return NONE;
+            return search::NO_STREAM;
         }
         i += 1;
     }
     let bits = xs.len() * 16;
-    if bits < CAP {
+    if bits < search::TOO_LONG {
         return bits;
     }
-    CAP
+    search::TOO_LONG
 }
 
 // Without Section 2: two bytes a value, the least first.
@@ -204,10 +199,10 @@ pub fn put_stream(
 fn found_refusal(bits: usize, room: usize) -> u8
     ensures { λ r. ⌜ ((found : Option (List ℕ)) → bits ≡ bitsFound found → r ≡ foundRefusal room found) ⌝ }
 {
-    if CAP < bits {
+    if search::TOO_LONG < bits {
         return 15;
     }
-    if 524280 < bits {
+    if search::MOST_BITS < bits {
         return 16;
     }
     if room < (bits + 7) / 8 {
@@ -302,7 +297,7 @@ fn asked_right(count: usize, order: usize) -> bool
     if count < 1 {
         return false;
     }
-    if 65536 < count {
+    if wire::MOST_SAMPLES < count {
         return false;
     }
     order <= 2
@@ -349,10 +344,10 @@ fn asked_refusal(section2: &[u8], count: usize, order: usize, work: usize) -> u8
 }
 
 // Room of its own for the numbers of the code tables, all of them 0.
-pub fn table_room() -> [u32; 5128]
+pub fn table_room() -> [u32; compiled::ROOM]
     ensures { λ r. ⌜ r ≡ replicate 5128 0 ⌝ }
 {
-    [0; 5128]
+    [0; compiled::ROOM]
 }
 
 // Section 2's tables are taken apart into the room; answered is how many of its numbers hold them, 0 without Section 2.
@@ -365,7 +360,7 @@ pub fn hold_tables(section2: &[u8], tab: &mut [u32]) -> usize
         return 0;
     }
     compiled::compile(section2, 0, 0, tab);
-    5128
+    compiled::ROOM
 }
 
 // A lead's samples become the shortest stream for their differences, at the front of the output.

@@ -71,7 +71,7 @@ fn lead_right(s: &[u8], k: usize) -> bool
     if last_sample(s, k) < first {
         return false;
     }
-    if 65536 < sample_count(s, k) {
+    if wire::MOST_SAMPLES < sample_count(s, k) {
         return false;
     }
     true
@@ -331,7 +331,7 @@ pub fn section4_right(s: &[u8], samples: usize) -> bool
     if samples < 1 {
         return false;
     }
-    if 65536 < samples {
+    if wire::MOST_SAMPLES < samples {
         return false;
     }
     let fiducial = wire::number16(s, 18);

@@ -41,17 +41,20 @@ pub struct Entry {
     pub bytes: u32,
 }
 
+// A lead of at most so many samples is read in small room, since all of the room is cleared first.
+const SMALL_ROOM: usize = 8192;
+
 // Room of its own: for the numbers of the code tables, and for the samples of a lead.
-fn table_room() -> [u32; 5128] {
-    [0; 5128]
+fn table_room() -> [u32; compiled::ROOM] {
+    [0; compiled::ROOM]
 }
 
-fn sample_room() -> [i16; 65536] {
-    [0; 65536]
+fn sample_room() -> [i16; wire::MOST_SAMPLES] {
+    [0; wire::MOST_SAMPLES]
 }
 
-fn small_room() -> [i16; 8192] {
-    [0; 8192]
+fn small_room() -> [i16; SMALL_ROOM] {
+    [0; SMALL_ROOM]
 }
 
 // All of the lent work space is made zeros.
@@ -86,7 +89,7 @@ fn hold_tables(rec: &[u8], tab: &mut [u32]) -> usize
         return 0;
     }
     compiled::compile(pointers::section_of(rec, 2), 16, 1, tab);
-    5128
+    compiled::ROOM
 }
 
 // Lead k's stream in Section 5 or 6 is rebuilt into the room: 0, or the number of the fault met.
@@ -192,7 +195,7 @@ fn read_into(rec: &[u8], k: usize, out: &mut [i16], work: &mut [i16]) -> u8
 {
     let mut tab = table_room();
     let held = hold_tables(rec, &mut tab);
-    if entries::sample_count(pointers::section_of(rec, 3), k) <= 8192 {
+    if entries::sample_count(pointers::section_of(rec, 3), k) <= SMALL_ROOM {
         let mut room = small_room();
         return read_in(rec, k, &tab[..held], &mut room, out, work);
     }

@@ -57,7 +57,7 @@ fn walk(tab: &[u32], t: usize, w: u64, left: usize) -> Found
     ensures { λ r. ⌜ ((tables : List (List Structure)) (bs : List ℕ) → Ready tables (now (tab .entry)) → Seen bs w left
         → foundIn r ≡ formed (matching (getD tables t []) bs)) ⌝ }
 {
-    let n = tab[t * 385] as usize;
+    let n = tab[t * compiled::TABLE] as usize;
     let mut k = 0;
     while k < n {
         let f = compiled::form_at(tab, t, k);
@@ -91,7 +91,7 @@ fn find(tab: &[u32], t: usize, w: u64, left: usize) -> Found
     let guess = compiled::guess(tab, t, w);
     let p = guess / 64;
     let k = guess % 64;
-    if k < tab[t * 385] as usize {
+    if k < tab[t * compiled::TABLE] as usize {
         let guessed = compiled::form_at(tab, t, k);
         if points(guessed, p, w, left) {
             return Found::At(guessed);
@@ -106,9 +106,9 @@ fn raised(n: usize, half: usize) -> usize
     ensures { λ r. ⌜ ((w : ℕ) → half ≡ 2 ^ w → lower 131072 r ≡ signed (suc w) n) × (r < 262144) ⌝ }
 {
     if n < half {
-        return 131072 + n;
+        return bits::VALUE_ZERO + n;
     }
-    131072 + n - 2 * half
+    bits::VALUE_ZERO + n - 2 * half
 }
 
 // The value of a matched form that is no switch, and the cursor behind its code.
@@ -130,7 +130,7 @@ fn value_of(f: Form, w: u64, left: usize, c: Cursor) -> Read
     }
     let n = bits::after(w, p, q) as usize;
     Read::Value(
-        raised(n, 131072 - f.lo),
+        raised(n, bits::VALUE_ZERO - f.lo),
         Cursor {
             at: at + p + q,
             table,
@@ -244,7 +244,7 @@ impl Cursor {
         }
         let w = bits::window(s, at);
         let n = bits::top(w, 8) as usize + bits::after(w, 8, 8) as usize * 256;
-        Read::Value(raised(n, 32768), Cursor { at: at + 16, table })
+        Read::Value(raised(n, bits::SAMPLE_ZERO), Cursor { at: at + 16, table })
     }
 
     // The next value of a stream: by the tables held, or, where none are (no Section 2), in two signed bytes.

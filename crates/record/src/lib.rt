@@ -20,7 +20,7 @@ pub fn length_right(rec: &[u8]) -> bool
     if rec.len() < 142 {
         return false;
     }
-    if 1048576 < rec.len() {
+    if wire::MOST_BYTES < rec.len() {
         return false;
     }
     if wire::number32(rec, 2) != rec.len() {

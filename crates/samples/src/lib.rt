@@ -59,9 +59,9 @@ fn stored_of(order: usize, place: usize, x: usize, last: usize, other: usize) ->
         return x + 98304;
     }
     if order == 1 {
-        return x + 131072 - last;
+        return x + bits::VALUE_ZERO - last;
     }
-    x + other + 131072 - 2 * last
+    x + other + bits::VALUE_ZERO - 2 * last
 }
 
 // The sample so many places before the i-th, raised; where there is none, any.

@@ -17,25 +17,24 @@ ghost use Rattle.shortest.specs.InnerRule.{kindOf, structureOf, rule};
 ghost use Rattle.search.specs.InnerSearch.{FilledBy, cap, Planned, countOf, formIn, bitsOf, rankIn, Within, NoSwitch, Place, at, leapOf, Served, IsNearest, Known, ValuedTo, LeastOf, Settled, Smaller, Picked, PickedFrom, Layer, Nine};
 use compiled::Form;
 
-// One more than the bits of 65,535 bytes, where costs stop.
-const CAP: usize = 524281;
-
-// There is no stream.
-const NONE: usize = 524282;
+// The bits of 65,535 bytes, the most that a stream may have; one more, where costs stop; and a number that says that there is no stream.
+pub const MOST_BITS: usize = 524280;
+pub const TOO_LONG: usize = 524281;
+pub const NO_STREAM: usize = 524282;
 
 // A code of so many bits, where what is left costs a.
 fn join(bits: usize, a: usize) -> usize
     requires { ⌜ bits ≤ 48 ⌝ }
     ensures { λ r. ⌜ r ≡ joinOf cap bits a ⌝ }
 {
-    if CAP < a {
-        return NONE;
+    if TOO_LONG < a {
+        return NO_STREAM;
     }
     let sum = bits + a;
-    if sum < CAP {
+    if sum < TOO_LONG {
         return sum;
     }
-    CAP
+    TOO_LONG
 }
 
 // How many structures table t has.
@@ -43,7 +42,7 @@ fn count(tab: &[u32], t: usize) -> usize
     requires { ⌜ Within (now tab) t ⌝ }
     ensures { λ r. ⌜ (r ≡ countOf (now (tab .entry)) t) × (r ≤ 64) ⌝ }
 {
-    tab[(t - 1) * 385] as usize
+    tab[(t - 1) * compiled::TABLE] as usize
 }
 
 // The bits of a code of structure k of table t.
@@ -178,7 +177,7 @@ fn value_cost(tab: &[u32], t: usize, k: usize, a: usize) -> usize
     ensures { λ r. ⌜ (k ≡ 64 → r ≡ suc cap) × (k < 64 → r ≡ joinOf cap (bitsOf (now (tab .entry)) t k) a) × (r ≤ suc cap) ⌝ }
 {
     if k == 64 {
-        return NONE;
+        return NO_STREAM;
     }
     join(bits_of(tab, t, k), a)
 }
@@ -197,7 +196,7 @@ fn values(
         → ValuedTo tables (now (next .entry)) v (now (marks .exit)) r (n + 1))
         × Nine r × Known (now (tab .entry)) (now (known .exit)) ⌝ }
 {
-    let mut cur = [NONE; 9];
+    let mut cur = [NO_STREAM; 9];
     let mut t = 1;
     while t <= n {
         let mut k = recall(t, v, known);
@@ -218,7 +217,7 @@ fn leap(tab: &[u32], t: usize, k: usize, cur: &[usize; 9]) -> usize
 {
     let f = compiled::form_at(tab, t - 1, k);
     if f.to == 0 {
-        return NONE;
+        return NO_STREAM;
     }
     let to = f.to;
     join(f.prefix + f.remainder, cur[to])
@@ -230,7 +229,7 @@ fn relax(tab: &[u32], t: usize, cur: &[usize; 9]) -> usize
     ensures { λ r. ⌜ LeastOf (leapOf (now (tab .entry)) (now (cur .entry)) t) (countOf (now (tab .entry)) t) r ⌝ }
 {
     let m = count(tab, t);
-    let mut least = NONE;
+    let mut least = NO_STREAM;
     let mut k = 0;
     while k < m {
         let e = leap(tab, t, k, cur);

@@ -71,8 +71,8 @@ const MANY: [u8; 15] = *b"\xFF\x83\x7F\xE0\xE6\xF1\x53\x65\x59\xB6\x5B\x96\x4B\x
 const MISPRINT: [u8; 14] = *b"\xFF\x83\x7F\xE0\xE6\xF5\x53\x65\x59\xB6\x5B\x96\x4B\x96";
 
 // Room for the tables, and the longest lead, all zeros; without a clause, since the types say the lengths.
-fn room() -> [u32; 5128] {
-    [0; 5128]
+fn room() -> [u32; compiled::ROOM] {
+    [0; compiled::ROOM]
 }
 
 fn zeros() -> [u8; 65535] {
@@ -92,11 +92,11 @@ fn put_value(x: usize, count: usize) {
     if 100 < count {
         return;
     }
-    if x < 131072 {
+    if x < bits::VALUE_ZERO {
         put(b"-");
-        put_number(131072 - x);
+        put_number(bits::VALUE_ZERO - x);
     } else {
-        put_number(x - 131072);
+        put_number(x - bits::VALUE_ZERO);
     }
     put(b" ");
 }

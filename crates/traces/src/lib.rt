@@ -61,8 +61,8 @@ pub fn rebuild(s: &[u8], tab: &[u32], order: usize, room: &mut [i16]) -> u8
 {
     let n = room.len();
     let mut c = Cursor::new();
-    let mut last = 32768;
-    let mut other = 32768;
+    let mut last = bits::SAMPLE_ZERO;
+    let mut other = bits::SAMPLE_ZERO;
     let mut j = 0;
     while j < n {
         match next_sample(c, s, tab, order, j, last, other) {

@@ -8,6 +8,10 @@ ghost use Rattle.wire.specs.Numbers.{byteAt, numberAt, bytesOf, part};
 ghost use Rattle.wire.specs.Check.{crcBit, crcByte, crcOf};
 ghost use Rattle.wire.specs.RuleWords.{endsBy};
 
+// The most bytes that a record may have, and the most samples that a lead or a beat may have (01, Numbers that bound the work).
+pub const MOST_BYTES: usize = 1048576;
+pub const MOST_SAMPLES: usize = 65536;
+
 // The byte at a place, as a number.
 pub fn byte(s: &[u8], i: usize) -> usize
     ensures { λ r. ⌜ (r ≡ byteAt (now (s .entry)) i) × (r < 256) ⌝ }
