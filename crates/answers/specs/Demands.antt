@@ -1,6 +1,6 @@
 -- The customer's three demands, stated in full over what the contracts of the public calls say (crates/scp/src/lib.rt; `field` of
--- crates/fields; the walker): the right sides of their equations, and the relations LeadEncoding and RecordWriting. 01 cites the demands by number; their own words stand here behind
--- a ">", each clause above the lines that state it.
+-- crates/fields; the walker): the right sides of their equations, and the relations LeadEncoding and RecordWriting. 01 cites the demands
+-- by number; their own words stand here behind a ">", each clause above the lines that state it.
 --
 -- The names below. r is the bytes of a record, and `place` a lead's place in it, from 1. s2 is Section 2's data as the writer is given
 -- them, xs a lead's samples, j a job. `work` and `out` are the work space and the output before a call; a is what the call answered, w
@@ -19,6 +19,7 @@ use mathlib.Core.Logic.{_⊎_, _↔_}
 use lib.Dec.{eqb}
 use lib.IntN.{ℤ, pos}
 use lib.ListN.{length, getD, take, drop, replicate}
+use Rattle.wire.specs.Bounds.{mostBytes, mostSamples, mostStreamBytes}
 use Rattle.wire.specs.Numbers.{part}
 use Rattle.wire.specs.RuleWords.{every}
 use Rattle.header.specs.declared.Field.{Field}
@@ -245,13 +246,13 @@ pub record FewestBits (tables : List (List Structure)) (order : ℕ) (xs : List 
 -- > It refuses for want of a code exactly if no such stream exists, and for length exactly if the shortest needs more than 65,535 bytes
 pub record EncodingDue (tables : List (List Structure)) (order : ℕ) (xs : List ℤ) (out : List ℕ) (a : Coded) (o : List ℕ) : Type 0 where
   pub no-code : (a .refusal ≡ 15) ↔ ((bs : List ℕ) → StreamFor tables order xs bs → ⊥)
-  pub too-long : (a .refusal ≡ 16) ↔ ((bs : List ℕ) × FewestBits tables order xs bs × (65535 < bytesFor (length bs)))
+  pub too-long : (a .refusal ≡ 16) ↔ ((bs : List ℕ) × FewestBits tables order xs bs × (mostStreamBytes < bytesFor (length bs)))
   -- 11 exactly if it needs no more, and the output has no room for it
   pub no-room : (a .refusal ≡ 11)
-      ↔ ((bs : List ℕ) × FewestBits tables order xs bs × (bytesFor (length bs) ≤ 65535) × (length out < bytesFor (length bs)))
+      ↔ ((bs : List ℕ) × FewestBits tables order xs bs × (bytesFor (length bs) ≤ mostStreamBytes) × (length out < bytesFor (length bs)))
   -- and it is accepted exactly if it fits. Then its bytes and bits are answered, and the output begins with it and is as it was behind it
   pub coded : (a .refusal ≡ 0)
-      ↔ ((bs : List ℕ) × FewestBits tables order xs bs × (bytesFor (length bs) ≤ 65535) × (bytesFor (length bs) ≤ length out))
+      ↔ ((bs : List ℕ) × FewestBits tables order xs bs × (bytesFor (length bs) ≤ mostStreamBytes) × (bytesFor (length bs) ≤ length out))
   pub answered : (bs : List ℕ) → FewestBits tables order xs bs → a .refusal ≡ 0
       → (a ≡ record { refusal = 0; bytes = bytesFor (length bs); bits = length bs }) × (o ≡ packed bs ++ drop (bytesFor (length bs)) out)
 
@@ -272,12 +273,12 @@ SomeWithout j =
 -- some stream needs over 65,535 bytes, or the record has over 1,048,576
 abbrev pub TooLong : Job → List (List ℕ) → Type 0
 TooLong j streams =
-    ((k : ℕ) × (k < length streams) × (65535 < bytesFor (length (getD streams k [])))) ⊎ (1048576 < length (recordWith j streams))
+    ((k : ℕ) × (k < length streams) × (mostStreamBytes < bytesFor (length (getD streams k [])))) ⊎ (mostBytes < length (recordWith j streams))
 
 -- neither is so
 pub record InBounds (j : Job) (streams : List (List ℕ)) : Type 0 where
-  pub each-stream : (k : ℕ) → k < length streams → bytesFor (length (getD streams k [])) ≤ 65535
-  pub whole : length (recordWith j streams) ≤ 1048576
+  pub each-stream : (k : ℕ) → k < length streams → bytesFor (length (getD streams k [])) ≤ mostStreamBytes
+  pub whole : length (recordWith j streams) ≤ mostBytes
 
 -- > or, where a whole record is written, that record is over its bound.
 pub record WritingDue (j : Job) (out : List ℕ) (a : Written) (o : List ℕ) : Type 0 where
@@ -294,7 +295,7 @@ pub record WritingDue (j : Job) (out : List ℕ) (a : Written) (o : List ℕ) : 
 pub record Demand3 : Type 0 where
   -- any accepted tables, or none; 1 to 65,536 samples of 16 bits; an order of 0 to 2; enough work space
   pub encoding : (s2 : List ℕ) (xs : List ℤ) (order : ℕ) (work out : List ℕ) (a : Coded) (w o : List ℕ)
-      → tablesGivenRight s2 ≡ true → 1 ≤ length xs → length xs ≤ 65536 → every fits16 xs ≡ true → order ≤ 2
+      → tablesGivenRight s2 ≡ true → 1 ≤ length xs → length xs ≤ mostSamples → every fits16 xs ≡ true → order ≤ 2
       → length xs * length (tablesGiven s2) ≤ length work → LeadEncoding s2 xs order work out a w o
       → EncodingDue (tablesGiven s2) order xs out a o
   -- and every job that keeps 17, 6, 7 and 11 for work space

@@ -10,7 +10,7 @@ use borrow.Author.Tests.{le-leb, lt-leb, lt-ltb, le-ltb}
 use lib.IntN.{ℤ, pos, _+ℤ_}
 use lib.ListN.{length, getD, take, drop, set, length-set}
 use lib.Seq.{take-all, take-suc-set, getD-set-other}
-use Rattle.bits.specs.InnerRaised.{lower}
+use Rattle.bits.specs.InnerRaised.{fromZero}
 use Rattle.bits.proofs.Raised.{lower-plus, lower-same}
 use Rattle.entries.specs.Section4.{qrsCount}
 use Rattle.samples.specs.Trace.{rebuilt, fault, fits16}
@@ -57,20 +57,20 @@ pub record Turn (s : List ℕ) (beat : List ℤ) (first : ℕ) (xs : List ℤ) (
   pub some : i < length xs
   pub zone : next ≤ zones
   pub alike : Alike s zones k next (first + i)
-  pub own : lower 32768 x ≡ getD room i (pos 0)
-  pub added : lower 32768 b ≡ beatValueAt beat (beatPlaceFrom s (zones - next) next (first + i))
+  pub own : fromZero 32768 x ≡ getD room i (pos 0)
+  pub added : fromZero 32768 b ≡ beatValueAt beat (beatPlaceFrom s (zones - next) next (first + i))
 
 module _ {s : List ℕ} {beat : List ℤ} {first : ℕ} {xs : List ℤ} {zones : ℕ} {room : List ℤ} {k i next x b : ℕ}
     (t : Turn s beat first xs zones room k i next x b) where
-  turn-sum : getD xs i (pos 0) +ℤ beatValueAt beat (beatPlace s (first + i)) ≡ lower 65536 (x + b)
+  turn-sum : getD xs i (pos 0) +ℤ beatValueAt beat (beatPlace s (first + i)) ≡ fromZero 65536 (x + b)
   turn-sum =
       let r = t .reached in
       let place = r .places (first + i) (omega arith) ∙ t .alike (first + i) (omega arith) in
       ap₂ _+ℤ_ (sym (t .own ∙ r .rest i (omega arith))) (ap (beatValueAt beat) place ∙ sym (t .added)) ∙ lower-plus 32768 x 32768 b
 
-  turn-fault : fits16 (lower 65536 (x + b)) ≡ false → fault 13 ≡ addBeat s beat first xs
+  turn-fault : fits16 (fromZero 65536 (x + b)) ≡ false → fault 13 ≡ addBeat s beat first xs
   turn-fault f =
-      sym (t .reached .whole ∙ ap (before (take i room)) (add-fault s beat (first + i) xs i (t .some) (lower 65536 (x + b)) turn-sum f))
+      sym (t .reached .whole ∙ ap (before (take i room)) (add-fault s beat (first + i) xs i (t .some) (fromZero 65536 (x + b)) turn-sum f))
 
   -- the sum is below 16 bits
   pub turn-low : x + b < 32768 → fault 13 ≡ addBeat s beat first xs
@@ -81,13 +81,13 @@ module _ {s : List ℕ} {beat : List ℤ} {first : ℕ} {xs : List ℤ} {zones :
   turn-high h = turn-fault (fits-lower 65536 (x + b) (omega arith) ∙ simp (le-ltb (x + b) 98304 h, and-false))
 
   -- or within, and is stored
-  pub turn-more : (z : ℤ) → 32768 ≤ x + b → x + b < 98304 → z ≡ lower 32768 (x + b - 32768)
+  pub turn-more : (z : ℤ) → 32768 ≤ x + b → x + b < 98304 → z ≡ fromZero 32768 (x + b - 32768)
       → Reached s beat first xs zones (set room i z) next (i + 1)
   turn-more z h g e =
       let r = t .reached in
       let long = r .long in
       let some = t .some in
-      let sum = lower 65536 (x + b) in
+      let sum = fromZero 65536 (x + b) in
       let same : sum ≡ z = lower-same 65536 (x + b) 32768 (x + b - 32768) (omega arith) ∙ sym e in
       let fits : fits16 sum ≡ true = fits-lower 65536 (x + b) (omega arith) ∙ simp (le-leb 32768 (x + b) h, lt-ltb (x + b) 98304 g) in
       let more = add-more s beat (first + i) xs i some z (turn-sum ∙ same) (rw same at fits) in

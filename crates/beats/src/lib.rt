@@ -3,7 +3,7 @@ ghost use mathlib.Core.Path.{_≡_};
 ghost use mathlib.Core.Bool.{true, false};
 ghost use Prim.Native.Nat.{ℕ, _+_, _-_, _<_, _≤_};
 ghost use lib.ListN.{length};
-ghost use Rattle.bits.specs.InnerRaised.{lower};
+ghost use Rattle.bits.specs.InnerRaised.{sampleZero, fromZero};
 ghost use Rattle.entries.specs.Section4.{qrsCount, qrsType, zoneEnd, section4Right};
 ghost use Rattle.samples.specs.InnerTrace.{traceOf};
 ghost use Rattle.beats.specs.Sums.{inZone, beatPlaceFrom, beatValueAt, addBeat};
@@ -40,7 +40,7 @@ fn zone_for(s: &[u8], zones: usize, k: usize, n: usize) -> usize
 fn beat_by(s: &[u8], beat: &[i16], zones: usize, k: usize, n: usize) -> usize
     requires { ⌜ (section4Right (length (now beat)) (now s) ≡ true) × (zones ≡ qrsCount (now s)) × (k ≤ zones) × (n ≤ 8589934592)
         × Reaches (now s) zones k n ⌝ }
-    ensures { λ r. ⌜ (lower 32768 r ≡ beatValueAt (now (beat .entry)) (beatPlaceFrom (now (s .entry)) (zones - k) k n)) × (r < 65536) ⌝ }
+    ensures { λ r. ⌜ (fromZero sampleZero r ≡ beatValueAt (now (beat .entry)) (beatPlaceFrom (now (s .entry)) (zones - k) k n)) × (r < 65536) ⌝ }
 {
     if k == zones {
         return bits::SAMPLE_ZERO;

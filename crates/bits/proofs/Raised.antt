@@ -8,7 +8,7 @@ use borrow.Author.Tests.{ltb-true, ltb-false, lt-ltb, le-ltb}
 use lib.Dec.{ltb}
 use lib.IntN.{ℤ, pos, negsuc, negℤ, _+ℤ_, _-ℤ_}
 use lib.Signed.{mag}
-use Rattle.bits.specs.InnerRaised.{lower}
+use Rattle.bits.specs.InnerRaised.{fromZero}
 
 -- x is `much` more than a whole number
 abbrev Held : ℕ → ℕ → ℤ → Type 0
@@ -16,8 +16,8 @@ Held much x (pos n) = x ≡ much + n
 Held much x (negsuc n) = x + suc n ≡ much
 
 -- what is held is
-held : (much x : ℕ) → Held much x (lower much x)
-unfolding lower
+held : (much x : ℕ) → Held much x (fromZero much x)
+unfolding fromZero
 held much x = go (ltb x much) refl
   where
     go : (t : Bool) → ltb x much ≡ t → Held much x (cond t (negsuc (much - suc x)) (pos (x - much)))
@@ -25,29 +25,29 @@ held much x = go (ltb x much) refl
     go false e = omega (arith, ltb-false x much e)
 
 -- and nothing else
-held-is : (much x : ℕ) (z : ℤ) → Held much x z → lower much x ≡ z
-unfolding lower
+held-is : (much x : ℕ) (z : ℤ) → Held much x z → fromZero much x ≡ z
+unfolding fromZero
 held-is much x (pos n) h = let e : x - much ≡ n = omega arith in simp (le-ltb x much (omega arith), e)
 held-is much x (negsuc n) h = let e : much - suc x ≡ n = omega arith in simp (lt-ltb x much (omega arith), e)
 
 -- two that are held as one number are one
-pub lower-one : (much x y : ℕ) → lower much x ≡ lower much y → x ≡ y
-lower-one much x y e = go (lower much y) (rw e at (held much x)) (held much y)
+pub lower-one : (much x y : ℕ) → fromZero much x ≡ fromZero much y → x ≡ y
+lower-one much x y e = go (fromZero much y) (rw e at (held much x)) (held much y)
   where
     go : (z : ℤ) → Held much x z → Held much y z → x ≡ y
     go (pos n) h g = omega arith
     go (negsuc n) h g = omega arith
 
 -- how large what is held is: within so much, and not
-pub mag-inside : (much x b : ℕ) → much ≤ x + b → x < much + b → mag (lower much x) < b
-mag-inside much x b h g = go (lower much x) (held much x)
+pub mag-inside : (much x b : ℕ) → much ≤ x + b → x < much + b → mag (fromZero much x) < b
+mag-inside much x b h g = go (fromZero much x) (held much x)
   where
     go : (z : ℤ) → Held much x z → mag z < b
     go (pos n) e = omega arith
     go (negsuc n) e = omega arith
 
-pub mag-outside : (much x b : ℕ) → (x + b < much) ⊎ (much + b ≤ x) → b ≤ mag (lower much x)
-mag-outside much x b o = go (lower much x) (held much x) o
+pub mag-outside : (much x b : ℕ) → (x + b < much) ⊎ (much + b ≤ x) → b ≤ mag (fromZero much x)
+mag-outside much x b o = go (fromZero much x) (held much x) o
   where
     go : (z : ℤ) → Held much x z → (x + b < much) ⊎ (much + b ≤ x) → b ≤ mag z
     go (pos n) e (inl h) = absurd (omega arith)
@@ -56,8 +56,8 @@ mag-outside much x b o = go (lower much x) (held much x) o
     go (negsuc n) e (inr h) = absurd (omega arith)
 
 -- two numbers hold the same where they differ as much as what is added does
-pub lower-same : (a x b y : ℕ) → x + b ≡ y + a → lower a x ≡ lower b y
-lower-same a x b y e = held-is a x (lower b y) (go (lower b y) (held b y))
+pub lower-same : (a x b y : ℕ) → x + b ≡ y + a → fromZero a x ≡ fromZero b y
+lower-same a x b y e = held-is a x (fromZero b y) (go (fromZero b y) (held b y))
   where
     go : (z : ℤ) → Held b y z → Held a x z
     go (pos n) h = omega arith
@@ -79,17 +79,17 @@ held-plus a x b y (negsuc m) (pos n) h g = go (ltb n (suc m)) refl
     go false e = omega (arith, ltb-false n (suc m) e)
 
 -- a sum
-pub lower-plus : (a x b y : ℕ) → lower a x +ℤ lower b y ≡ lower (a + b) (x + y)
+pub lower-plus : (a x b y : ℕ) → fromZero a x +ℤ fromZero b y ≡ fromZero (a + b) (x + y)
 lower-plus a x b y =
-    let z = lower a x in
-    let w = lower b y in
+    let z = fromZero a x in
+    let w = fromZero b y in
     sym (held-is (a + b) (x + y) (z +ℤ w) (held-plus a x b y z w (held a x) (held b y)))
 
 -- a difference
-pub lower-minus : (a x b y : ℕ) → lower a x -ℤ lower b y ≡ lower (a + y) (x + b)
+pub lower-minus : (a x b y : ℕ) → fromZero a x -ℤ fromZero b y ≡ fromZero (a + y) (x + b)
 lower-minus a x b y =
-    let turned : lower y b ≡ negℤ (lower b y) = held-is y b (negℤ (lower b y)) (go (lower b y) (held b y)) in
-    ap (λ (z : ℤ). lower a x +ℤ z) (sym turned) ∙ lower-plus a x y b
+    let turned : fromZero y b ≡ negℤ (fromZero b y) = held-is y b (negℤ (fromZero b y)) (go (fromZero b y) (held b y)) in
+    ap (λ (z : ℤ). fromZero a x +ℤ z) (sym turned) ∙ lower-plus a x y b
   where
     go : (z : ℤ) → Held b y z → Held y b (negℤ z)
     go (pos zero) h = omega arith

@@ -4,6 +4,13 @@ use mathlib.Core.Bool.{cond}
 use lib.IntN.{ℤ, pos, negsuc}
 use lib.Dec.{ltb}
 
--- the whole number of which x is `much` more
-unfoldable pub lower : ℕ → ℕ → ℤ
-lower much x = cond (ltb x much) (negsuc (much - suc x)) (pos (x - much))
+-- a sample is held with this much added, a stored value with that much
+abbrev pub sampleZero : ℕ
+sampleZero = 32768
+
+abbrev pub valueZero : ℕ
+valueZero = 131072
+
+-- the whole number that x holds, where `origin` holds 0
+unfoldable pub fromZero : ℕ → ℕ → ℤ
+fromZero origin x = cond (ltb x origin) (negsuc (origin - suc x)) (pos (x - origin))

@@ -94,6 +94,7 @@ pub fn turn(p: usize, code: usize) -> usize
 
 // Whole numbers are held without a sign: a sample with this much added, a stored value with that much.
 pub const SAMPLE_ZERO: usize = 32768;
+
 pub const VALUE_ZERO: usize = 131072;
 
 // Two to the p.

@@ -18,7 +18,7 @@ use Rattle.tables.specs.declared.Structure.{Structure}
 use Rattle.tables.specs.Structures.{remainderOf, modeRight, structureRight, apart, noStructure}
 use Rattle.tables.proofs.Laws.{Fine, fine, RightTable, every-at, free-at, right-at}
 use Rattle.compiled.specs.declared.Form.{Form}
-use Rattle.compiled.specs.InnerForm.{lowest, beyond, formOf, formAt, Ready, Holding}
+use Rattle.compiled.specs.InnerForm.{lowest, beyond, formOf, formAt, Compiled, CompiledOrNone}
 
 -- ---- what a form holds
 
@@ -102,16 +102,16 @@ right-more m n c h right =
 -- ---- what is read of tables that are ready
 
 -- numbers that there are say the tables that they hold
-pub held-ready : (tables : List (List Structure)) (tab : List ℕ) → Holding tables tab → (length tab ≡ 0 → ⊥) → Ready tables tab
+pub held-ready : (tables : List (List Structure)) (tab : List ℕ) → CompiledOrNone tables tab → (length tab ≡ 0 → ⊥) → Compiled tables tab
 held-ready tables tab (inl ready) h = ready
 held-ready tables tab (inr empty) h = absurd (h (ap length (empty .1)))
 
 -- and tables that are said are held, where the numbers are lent whole
-pub ready-held : {given tables : List (List Structure)} {tab : List ℕ} {n : ℕ} → given ≡ tables → Ready tables tab → length tab ≡ n
-    → Holding given (take n tab)
+pub ready-held : {given tables : List (List Structure)} {tab : List ℕ} {n : ℕ} → given ≡ tables → Compiled tables tab → length tab ≡ n
+    → CompiledOrNone given (take n tab)
 ready-held {tab = tab} {n = n} e ready h = rw (e, take-all n tab (omega arith)) (inl ready)
 
-module _ {tables : List (List Structure)} {tab : List ℕ} (held : Ready tables tab) (t : ℕ) (h : t < 8) where
+module _ {tables : List (List Structure)} {tab : List ℕ} (held : Compiled tables tab) (t : ℕ) (h : t < 8) where
   -- table t has as many structures as its count says
   counted : getD tab (t * 385) 0 ≡ length (getD tables t [])
   counted = held .says t h .count

@@ -19,7 +19,7 @@ use Rattle.tables.specs.Default.{defaultTable, twoValues, valued}
 use Rattle.tables.specs.Section2.{tableAt, afterTable, tablesFrom, tableRight}
 use Rattle.tables.proofs.Laws.{every-at, right-at, tables-cons}
 use Rattle.compiled.specs.declared.Form.{Form}
-use Rattle.compiled.specs.InnerForm.{formOf, formAt, numbersOf, Says, Beside, TwoBytes, SameTables, Ready}
+use Rattle.compiled.specs.InnerForm.{formOf, formAt, numbersOf, Says, Beside, TwoBytes, SameTables, Compiled}
 use Rattle.compiled.proofs.Laws.{held-count}
 
 -- ---- the numbers w are put into a list from place a on
@@ -218,7 +218,7 @@ pub ready : (tables : List (List Structure)) (n : ℕ) (tab after : List ℕ) �
     → every (tableRight n) tables ≡ true → TwoBytes tables → length after ≡ 5128
     → ((t : ℕ) → t < n → Says (getD tables t []) tab t)
     → ((t : ℕ) → n ≤ t → t < 8 → Says [] after t) × ((i : ℕ) → i < n * 385 → getD after i 0 ≡ getD tab i 0)
-    → Ready tables after
+    → Compiled tables after
 ready tables n tab after e some most right two room says none = record {
   room = room;
   some = omega arith;
@@ -236,7 +236,7 @@ ready tables n tab after e some most right two room says none = record {
 
 -- tables that are ready stay so, whatever is put behind their numbers
 pub ready-same : (tables : List (List Structure)) (tab after : List ℕ) → length after ≡ 5128 → SameTables tab after
-    → Ready tables tab → Ready tables after
+    → Compiled tables tab → Compiled tables after
 ready-same tables tab after room same held = record {
   room = room;
   some = held .some;

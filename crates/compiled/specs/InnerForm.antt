@@ -9,20 +9,31 @@ use mathlib.Core.Logic.{_⊎_}
 use lib.Dec.{eqb}
 use lib.ListN.{length, getD}
 use Rattle.wire.specs.RuleWords.{every}
+use Rattle.bits.specs.InnerRaised.{sampleZero, valueZero}
 use Rattle.bits.specs.InnerWindow.{turned}
 use Rattle.tables.specs.declared.Structure.{Structure}
 use Rattle.tables.specs.Structures.{remainderOf, noStructure}
 use Rattle.tables.specs.Section2.{tableRight}
 use Rattle.compiled.specs.declared.Form.{Form}
 
+-- how many numbers a table takes; where the guesses begin, behind eight tables; and how many numbers there are in all
+abbrev pub tableNumbers : ℕ
+tableNumbers = 385
+
+abbrev pub guessesAt : ℕ
+guessesAt = 3080
+
+abbrev pub roomNumbers : ℕ
+roomNumbers = 5128
+
 -- the values that a structure serves, 131,072 added so that no sign is needed: from `lowest` up to `beyond`, which is left out
 abbrev pub lowest : ℕ → ℕ → ℕ
-lowest base zero = (base + 32768) % 65536 + 98304
-lowest base (suc w) = 131072 - 2 ^ w
+lowest base zero = (base + sampleZero) % 65536 + 98304
+lowest base (suc w) = valueZero - 2 ^ w
 
 abbrev pub beyond : ℕ → ℕ → ℕ
-beyond base zero = (base + 32768) % 65536 + 98305
-beyond base (suc w) = 131072 + 2 ^ w
+beyond base zero = (base + sampleZero) % 65536 + 98305
+beyond base (suc w) = valueZero + 2 ^ w
 
 -- a structure's form: the lengths of prefix and remainder; the table that a switch leads to, 0 for a value; the values served, none
 -- by a switch; and the prefix as a number whose first bit is the highest
@@ -39,12 +50,12 @@ formOf c = record {
 -- the form at place k of table t, both counted from 0
 unfoldable pub formAt : List ℕ → ℕ → ℕ → Form
 formAt tab t k = record {
-  prefix = getD tab (t * 385 + 1 + k * 6) 0;
-  remainder = getD tab (t * 385 + 2 + k * 6) 0;
-  to = getD tab (t * 385 + 3 + k * 6) 0;
-  lo = getD tab (t * 385 + 4 + k * 6) 0;
-  hi = getD tab (t * 385 + 5 + k * 6) 0;
-  word = getD tab (t * 385 + 6 + k * 6) 0;
+  prefix = getD tab (t * tableNumbers + 1 + k * 6) 0;
+  remainder = getD tab (t * tableNumbers + 2 + k * 6) 0;
+  to = getD tab (t * tableNumbers + 3 + k * 6) 0;
+  lo = getD tab (t * tableNumbers + 4 + k * 6) 0;
+  hi = getD tab (t * tableNumbers + 5 + k * 6) 0;
+  word = getD tab (t * tableNumbers + 6 + k * 6) 0;
 }
 
 -- a form's six numbers, in their order
@@ -53,24 +64,24 @@ numbersOf f = f .prefix ∷ (f .remainder ∷ (f .to ∷ (f .lo ∷ (f .hi ∷ (
 
 -- table t of the numbers says the structures cs
 pub record Says (cs : List Structure) (tab : List ℕ) (t : ℕ) : Type 0 where
-  pub count : getD tab (t * 385) 0 ≡ length cs
+  pub count : getD tab (t * tableNumbers) 0 ≡ length cs
   pub form : (k : ℕ) → k < length cs → formAt tab t k ≡ formOf (getD cs k noStructure)
 
 -- the numbers of all tables but t are as they were
 abbrev pub Beside : List ℕ → List ℕ → ℕ → Type 0
-Beside before after t = (i : ℕ) → (i < t * 385) ⊎ (t * 385 + 385 ≤ i) → getD after i 0 ≡ getD before i 0
+Beside before after t = (i : ℕ) → (i < t * tableNumbers) ⊎ (t * tableNumbers + tableNumbers ≤ i) → getD after i 0 ≡ getD before i 0
 
 -- the numbers of all tables are as they were, whatever the guesses behind them are
 abbrev pub SameTables : List ℕ → List ℕ → Type 0
-SameTables before after = (i : ℕ) → i < 3080 → getD after i 0 ≡ getD before i 0
+SameTables before after = (i : ℕ) → i < guessesAt → getD after i 0 ≡ getD before i 0
 
 -- the base values of tables have two bytes, as those of Section 2's data have
 abbrev pub TwoBytes : List (List Structure) → Type 0
 TwoBytes tables = (t k : ℕ) → getD (getD tables t []) k noStructure .base < 65536
 
 -- tables that were judged to be right, and the numbers that say them; a table that is not there has no structure
-pub record Ready (tables : List (List Structure)) (tab : List ℕ) : Type 0 where
-  pub room : length tab ≡ 5128
+pub record Compiled (tables : List (List Structure)) (tab : List ℕ) : Type 0 where
+  pub room : length tab ≡ roomNumbers
   pub some : 1 ≤ length tables
   pub most : length tables ≤ 8
   pub right : every (tableRight (length tables)) tables ≡ true
@@ -78,13 +89,13 @@ pub record Ready (tables : List (List Structure)) (tab : List ℕ) : Type 0 wher
   pub says : (t : ℕ) → t < 8 → Says (getD tables t []) tab t
 
 -- the numbers say some tables that were judged to be right
-abbrev pub Filled : List ℕ → Type 0
-Filled tab = (tables : List (List Structure)) × Ready tables tab
+abbrev pub CompiledSome : List ℕ → Type 0
+CompiledSome tab = (tables : List (List Structure)) × Compiled tables tab
 
 -- the numbers hold the tables: they say them; or, with no Section 2, there are no tables and no numbers
-abbrev pub Holding : List (List Structure) → List ℕ → Type 0
-Holding tables tab = Ready tables tab ⊎ ((tables ≡ []) × (tab ≡ []))
+abbrev pub CompiledOrNone : List (List Structure) → List ℕ → Type 0
+CompiledOrNone tables tab = Compiled tables tab ⊎ ((tables ≡ []) × (tab ≡ []))
 
 -- the numbers hold some tables, or none
-abbrev pub Held : List ℕ → Type 0
-Held tab = (tables : List (List Structure)) × Holding tables tab
+abbrev pub CompiledSomeOrNone : List ℕ → Type 0
+CompiledSomeOrNone tab = (tables : List (List Structure)) × CompiledOrNone tables tab

@@ -10,7 +10,7 @@ ghost use Rattle.wire.specs.RuleWords.{every};
 ghost use Rattle.tables.specs.Structures.{structureRight, structuresAt};
 ghost use Rattle.tables.specs.Default.{defaultTable};
 ghost use Rattle.tables.specs.Section2.{section2Right, tablesIn, tablesFrom, tableRight};
-ghost use Rattle.compiled.specs.InnerForm.{lowest, beyond, formOf, formAt, numbersOf, Says, Beside, SameTables, Ready};
+ghost use Rattle.compiled.specs.InnerForm.{guessesAt, roomNumbers, tableNumbers, lowest, beyond, formOf, formAt, numbersOf, Says, Beside, SameTables, Compiled};
 use tables::Structure;
 
 // How many numbers a table takes: its number of structures, then six for each of up to 64.
@@ -18,6 +18,7 @@ pub const TABLE: usize = 385;
 
 // Behind eight tables come the guesses, so many for each table: one for each first eight bits.
 const GUESSES: usize = 3080;
+
 const GUESSES_OF_A_TABLE: usize = 256;
 
 // How many numbers all of that takes.
@@ -86,7 +87,7 @@ fn form_of(c: Structure) -> Form
 
 // The form at place k of table t.
 pub fn form_at(tab: &[u32], t: usize, k: usize) -> Form
-    requires { ⌜ (length (now tab) ≡ 5128) × (t < 8) × (k < 64) ⌝ }
+    requires { ⌜ (length (now tab) ≡ roomNumbers) × (t < 8) × (k < 64) ⌝ }
     ensures { λ r. ⌜ r ≡ formAt (now (tab .entry)) t k ⌝ }
 {
     let o = t * TABLE + k * 6;
@@ -102,11 +103,11 @@ pub fn form_at(tab: &[u32], t: usize, k: usize) -> Form
 
 // A form is put at place k of table t.
 fn put_form(tab: &mut [u32], t: usize, k: usize, f: Form)
-    requires { ⌜ (length (now tab) ≡ 5128) × (t < 8) × (k < 64) ⌝ }
+    requires { ⌜ (length (now tab) ≡ roomNumbers) × (t < 8) × (k < 64) ⌝ }
     requires { ⌜ (f .prefix < 4294967296) × (f .remainder < 4294967296) × (f .to < 4294967296) ⌝ }
     requires { ⌜ (f .lo < 4294967296) × (f .hi < 4294967296) × (f .word < 4294967296) ⌝ }
-    ensures { λ _. ⌜ now (tab .exit) ≡ take (t * 385 + 1 + k * 6) (now (tab .entry)) ++
-        (numbersOf f ++ drop (t * 385 + 7 + k * 6) (now (tab .entry))) ⌝ }
+    ensures { λ _. ⌜ now (tab .exit) ≡ take (t * tableNumbers + 1 + k * 6) (now (tab .entry)) ++
+        (numbersOf f ++ drop (t * tableNumbers + 7 + k * 6) (now (tab .entry))) ⌝ }
 {
     let o = t * TABLE + k * 6;
     tab[o + 1] = f.prefix as u32;
@@ -119,7 +120,7 @@ fn put_form(tab: &mut [u32], t: usize, k: usize, f: Form)
 
 // The n structures from a place of Section 2's data on are put as table t.
 fn put_table(s: &[u8], o: usize, n: usize, tables: usize, tab: &mut [u32], t: usize)
-    requires { ⌜ (length (now tab) ≡ 5128) × (t < 8) × (n ≤ 64) × (o < 8388608) × (tables ≤ 8) ⌝ }
+    requires { ⌜ (length (now tab) ≡ roomNumbers) × (t < 8) × (n ≤ 64) × (o < 8388608) × (tables ≤ 8) ⌝ }
     requires { ⌜ every (structureRight tables) (structuresAt (now s) o n) ≡ true ⌝ }
     ensures { λ _. ⌜ Says (structuresAt (now (s .entry)) o n) (now (tab .exit)) t × Beside (now (tab .entry)) (now (tab .exit)) t ⌝ }
 {
@@ -135,7 +136,7 @@ fn put_table(s: &[u8], o: usize, n: usize, tables: usize, tab: &mut [u32], t: us
 
 // The default table is put as the first.
 fn put_default(tab: &mut [u32])
-    requires { ⌜ length (now tab) ≡ 5128 ⌝ }
+    requires { ⌜ length (now tab) ≡ roomNumbers ⌝ }
     ensures { λ _. ⌜ Says defaultTable (now (tab .exit)) 0 ⌝ }
 {
     tab[0] = 19;
@@ -148,9 +149,9 @@ fn put_default(tab: &mut [u32])
 
 // The tables from n on have no structure.
 fn put_none(tab: &mut [u32], n: usize)
-    requires { ⌜ (length (now tab) ≡ 5128) × (n ≤ 8) ⌝ }
+    requires { ⌜ (length (now tab) ≡ roomNumbers) × (n ≤ 8) ⌝ }
     ensures { λ _. ⌜ ((t : ℕ) → n ≤ t → t < 8 → Says [] (now (tab .exit)) t)
-        × ((i : ℕ) → i < n * 385 → getD (now (tab .exit)) i 0 ≡ getD (now (tab .entry)) i 0) ⌝ }
+        × ((i : ℕ) → i < n * tableNumbers → getD (now (tab .exit)) i 0 ≡ getD (now (tab .entry)) i 0) ⌝ }
 {
     let mut t = n;
     while t < 8 {
@@ -161,7 +162,7 @@ fn put_none(tab: &mut [u32], n: usize)
 
 // The n tables from a place of Section 2's data on are put as the first n.
 fn put_tables(s: &[u8], o: usize, n: usize, tab: &mut [u32])
-    requires { ⌜ (length (now tab) ≡ 5128) × (n ≤ 8) × (o < 2097152) ⌝ }
+    requires { ⌜ (length (now tab) ≡ roomNumbers) × (n ≤ 8) × (o < 2097152) ⌝ }
     requires { ⌜ every (tableRight n) (tablesFrom (now s) o n) ≡ true ⌝ }
     ensures { λ _. ⌜ ((t : ℕ) → t < n → Says (getD (tablesFrom (now (s .entry)) o n) t []) (now (tab .exit)) t) ⌝ }
 {
@@ -176,8 +177,8 @@ fn put_tables(s: &[u8], o: usize, n: usize, tab: &mut [u32])
 
 // The tables of Section 2's data, which start at place `at` and were judged to be right, are put as forms.
 fn put_all(s: &[u8], at: usize, spare: usize, tab: &mut [u32])
-    requires { ⌜ (length (now tab) ≡ 5128) × (at ≤ 1048576) × (section2Right spare (now s) at ≡ true) ⌝ }
-    ensures { λ _. ⌜ Ready (tablesIn (now (s .entry)) at) (now (tab .exit)) ⌝ }
+    requires { ⌜ (length (now tab) ≡ roomNumbers) × (at ≤ 1048576) × (section2Right spare (now s) at ≡ true) ⌝ }
+    ensures { λ _. ⌜ Compiled (tablesIn (now (s .entry)) at) (now (tab .exit)) ⌝ }
 {
     if tables::is_default(s, at) {
         put_default(tab);
@@ -192,7 +193,7 @@ fn put_all(s: &[u8], at: usize, spare: usize, tab: &mut [u32])
 // Structure k of table t is what to try first wherever its prefix begins the first eight bits, unless it is longer than these. What is
 // put is its place, and 64 times its prefix's length.
 fn put_guess(tab: &mut [u32], t: usize, k: usize)
-    requires { ⌜ (length (now tab) ≡ 5128) × (t < 8) × (k < 64) ⌝ }
+    requires { ⌜ (length (now tab) ≡ roomNumbers) × (t < 8) × (k < 64) ⌝ }
     ensures { λ _. ⌜ SameTables (now (tab .entry)) (now (tab .exit)) ⌝ }
 {
     let f = form_at(tab, t, k);
@@ -215,7 +216,7 @@ fn put_guess(tab: &mut [u32], t: usize, k: usize)
 
 // What to try first, by the structures of table t.
 fn put_guesses(tab: &mut [u32], t: usize)
-    requires { ⌜ (length (now tab) ≡ 5128) × (t < 8) ⌝ }
+    requires { ⌜ (length (now tab) ≡ roomNumbers) × (t < 8) ⌝ }
     ensures { λ _. ⌜ SameTables (now (tab .entry)) (now (tab .exit)) ⌝ }
 {
     let n = tab[t * TABLE] as usize;
@@ -231,8 +232,8 @@ fn put_guesses(tab: &mut [u32], t: usize)
 
 // The tables of Section 2's data, which start at place `at` and were judged to be right, are put as forms, with what to try first.
 pub fn compile(s: &[u8], at: usize, spare: usize, tab: &mut [u32])
-    requires { ⌜ (length (now tab) ≡ 5128) × (at ≤ 1048576) × (section2Right spare (now s) at ≡ true) ⌝ }
-    ensures { λ _. ⌜ Ready (tablesIn (now (s .entry)) at) (now (tab .exit)) ⌝ }
+    requires { ⌜ (length (now tab) ≡ roomNumbers) × (at ≤ 1048576) × (section2Right spare (now s) at ≡ true) ⌝ }
+    ensures { λ _. ⌜ Compiled (tablesIn (now (s .entry)) at) (now (tab .exit)) ⌝ }
 {
     put_all(s, at, spare, tab);
     let mut t = 0;
@@ -254,8 +255,8 @@ fn pointed(row: &[u32], w: u64) -> usize
 // The structure of table t to try first for the bits of a window: its place, and 64 times its prefix's length. What stands there is
 // what is answered; that it is right is nowhere said, and whoever takes it tests it.
 pub fn guess(tab: &[u32], t: usize, w: u64) -> usize
-    requires { ⌜ (length (now tab) ≡ 5128) × (t < 8) ⌝ }
-    ensures { λ r. ⌜ r ≡ getD (now (tab .entry)) (3080 + t * 256 + w / 2 ^ 56) 0 ⌝ }
+    requires { ⌜ (length (now tab) ≡ roomNumbers) × (t < 8) ⌝ }
+    ensures { λ r. ⌜ r ≡ getD (now (tab .entry)) (guessesAt + t * 256 + w / 2 ^ 56) 0 ⌝ }
 {
     let from = GUESSES + t * GUESSES_OF_A_TABLE;
     pointed(&tab[from..from + 256], w)

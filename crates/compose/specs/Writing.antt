@@ -7,6 +7,7 @@ use mathlib.Core.Option.{Option, none, some}
 use lib.Dec.{leb, eqb}
 use lib.IntN.{ℤ}
 use lib.ListN.{length, getD, take, drop}
+use Rattle.wire.specs.Bounds.{mostBytes, mostLeads, mostSamples, mostStreamBytes}
 use Rattle.wire.specs.RuleWords.{allIn, every, unless}
 use Rattle.header.specs.Header.{section1Right}
 use Rattle.samples.specs.Differences.{differences}
@@ -63,7 +64,7 @@ longest (c ∷ cs) = cond (leb (longest cs) c) c (longest cs)
 unfoldable pub leadAsked : List ℕ → List ℕ → ℕ → Bool
 leadAsked firsts counts k =
     leb 1 (getD counts k 0)
-    && (leb (getD counts k 0) 65536
+    && (leb (getD counts k 0) mostSamples
     && (leb 1 (getD firsts k 0) && leb (getD firsts k 0 + getD counts k 0) 4294967296))
 
 -- 17: 1 to 32 leads, in lists of equal length, each by its rule; an order of 0 to 2; step and interval not 0; as many samples as the
@@ -71,7 +72,7 @@ leadAsked firsts counts k =
 unfoldable pub jobRight : Job → Bool
 jobRight j =
     leb 1 (length (j .counts))
-    && (leb (length (j .counts)) 32
+    && (leb (length (j .counts)) mostLeads
     && (eqb (length (j .firsts)) (length (j .counts))
     && (eqb (length (j .ids)) (length (j .counts))
     && (allIn 0 (length (j .counts)) (leadAsked (j .firsts) (j .counts))
@@ -113,7 +114,7 @@ packedAll (some bs ∷ founds) = withStream bs (packedAll founds)
 
 -- every stream has at most 65,535 bytes
 unfoldable pub allShort : List (List ℕ) → Bool
-allShort streams = every (λ stream. leb (length stream) 65535) streams
+allShort streams = every (λ stream. leb (length stream) mostStreamBytes) streams
 
 -- ---- the record
 
@@ -128,7 +129,7 @@ recordOf j streams =
 unfoldable pub recordRefusal : Job → ℕ → Option (List (List ℕ)) → ℕ
 recordRefusal j room none = 15
 recordRefusal j room (some streams) =
-    unless (allShort streams && leb (length (recordOf j streams)) 1048576) 16
+    unless (allShort streams && leb (length (recordOf j streams)) mostBytes) 16
     (unless (leb (length (recordOf j streams)) room) 11 0)
 
 -- a refusal is its number and nothing else; else the record's length is answered. The case `zero none` is never

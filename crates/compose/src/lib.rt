@@ -8,7 +8,7 @@ ghost use Prim.Native.Nat.{ℕ, _+_, _*_, _<_, _≤_, min};
 ghost use lib.ListN.{length, take, drop};
 ghost use Rattle.wire.specs.RuleWords.{allIn};
 ghost use Rattle.samples.specs.Differences.{differences};
-ghost use Rattle.compiled.specs.InnerForm.{Holding};
+ghost use Rattle.compiled.specs.InnerForm.{CompiledOrNone};
 ghost use Rattle.packing.specs.Packing.{packed};
 ghost use Rattle.shortest.specs.Shortest.{Shortest};
 ghost use Rattle.layout.specs.Layout.{sectionLength, sectionBytes, zeroReserved, leadsData, joined, streamsData};
@@ -186,7 +186,7 @@ fn size_streams(
     work: &mut [u8],
     sizes: &mut [u32],
 ) -> u8
-    requires { ⌜ Sound (now section2) (now counts) (now xs) (length (now work)) × Holding (tablesGiven (now section2)) (now tab) ⌝ }
+    requires { ⌜ Sound (now section2) (now counts) (now xs) (length (now work)) × CompiledOrNone (tablesGiven (now section2)) (now tab) ⌝ }
     requires { ⌜ length (now counts) ≤ length (now sizes) ⌝ }
     ensures { λ r. ⌜ SizedAs (now (section2 .entry)) order (cut (now (counts .entry)) (now (xs .entry))) r
         (take (length (now (counts .entry))) (now (sizes .exit)))
@@ -216,7 +216,7 @@ fn put_lead(
     work: &mut [u8],
     part: &mut [u8],
 )
-    requires { ⌜ (tablesGivenRight (now section2) ≡ true) × Holding (tablesGiven (now section2)) (now tab) ⌝ }
+    requires { ⌜ (tablesGivenRight (now section2) ≡ true) × CompiledOrNone (tablesGiven (now section2)) (now tab) ⌝ }
     requires { ⌜ (length (now xs) ≤ 65536) × (length (now xs) * length (tablesGiven (now section2)) ≤ length (now work))
         × StreamOf (now section2) order (now xs) (length (now part)) ⌝ }
     ensures { λ _. ⌜ ((bs : List ℕ) → Shortest (tablesGiven (now (section2 .entry))) (differences order (now (xs .entry))) bs
@@ -239,7 +239,7 @@ fn put_streams(
     sizes: &[u32],
     part: &mut [u8],
 )
-    requires { ⌜ Sound (now section2) (now counts) (now xs) (length (now work)) × Holding (tablesGiven (now section2)) (now tab) ⌝ }
+    requires { ⌜ Sound (now section2) (now counts) (now xs) (length (now work)) × CompiledOrNone (tablesGiven (now section2)) (now tab) ⌝ }
     requires { ⌜ (length (now sizes) ≡ length (now counts)) × (total (now sizes) ≡ length (now part))
         × SizedAs (now section2) order (cut (now counts) (now xs)) 0 (now sizes) ⌝ }
     ensures { λ _. ⌜ ((streams : List (List ℕ))
@@ -278,7 +278,7 @@ fn write_streams(
     sizes: &[u32],
     part: &mut [u8],
 )
-    requires { ⌜ Sound (now section2) (now counts) (now xs) (length (now work)) × Holding (tablesGiven (now section2)) (now tab) ⌝ }
+    requires { ⌜ Sound (now section2) (now counts) (now xs) (length (now work)) × CompiledOrNone (tablesGiven (now section2)) (now tab) ⌝ }
     requires { ⌜ (length (now counts) ≤ 32) × (head .order ≤ 2) × (length (now sizes) ≡ length (now counts))
         × SizedAs (now section2) (head .order) (cut (now counts) (now xs)) 0 (now sizes)
         × (length (now part) ≡ sectionLength (count6 (now sizes))) ⌝ }
@@ -390,7 +390,7 @@ fn write_found(
     work: &mut [u8],
     out: &mut [u8],
 ) -> Written
-    requires { ⌜ Sound (now section2) (now counts) (now xs) (length (now work)) × Holding (tablesGiven (now section2)) (now tab) ⌝ }
+    requires { ⌜ Sound (now section2) (now counts) (now xs) (length (now work)) × CompiledOrNone (tablesGiven (now section2)) (now tab) ⌝ }
     requires { ⌜ (length (now counts) ≤ 32) × (head .order ≤ 2) ⌝ }
     ensures { λ r. ⌜ Streamed count1 (now (section2 .entry)) head (now (counts .entry)) (now (xs .entry)) (now (out .entry)) r
         (now (out .exit))

@@ -12,7 +12,7 @@ use lib.IntN.{ℤ}
 use lib.ListN.{length, drop}
 use Rattle.wire.proofs.Laws.{kept-first}
 use Rattle.tables.specs.declared.Structure.{Structure}
-use Rattle.compiled.specs.InnerForm.{Ready, Holding}
+use Rattle.compiled.specs.InnerForm.{Compiled, CompiledOrNone}
 use Rattle.packing.specs.Packing.{packed, bytesFor}
 use Rattle.shortest.specs.Shortest.{Shortest}
 use Rattle.shortest.proofs.Bridge.{exact-shortest, exact-long, exact-nothing}
@@ -25,18 +25,18 @@ use Rattle.encode.specs.InnerEncode.{bitsFound, Sized, Laid, Written}
 -- ---- the bits found
 
 -- no numbers hold no tables
-pub held-none : (tables : List (List Structure)) (tab : List ℕ) → Holding tables tab → length tab ≡ 0 → tables ≡ []
+pub held-none : (tables : List (List Structure)) (tab : List ℕ) → CompiledOrNone tables tab → length tab ≡ 0 → tables ≡ []
 held-none tables tab (inl ready) h = absurd (omega (arith, ready .room))
 held-none tables tab (inr empty) h = empty .0
 
 -- there are tables: the way is in the work space
-pub laid-plan : {tables : List (List Structure)} {tab : List ℕ} {vs : List ℤ} {work : List ℕ} {r : ℕ} → Ready tables tab
+pub laid-plan : {tables : List (List Structure)} {tab : List ℕ} {vs : List ℤ} {work : List ℕ} {r : ℕ} → Compiled tables tab
     → Laid tables vs work r → Planned tables vs work r
 laid-plan ready (inl z) = absurd (omega (arith, ready .some, ap length z))
 laid-plan ready (inr plan) = plan
 
 -- what the search says
-pub plan-sized : {tables : List (List Structure)} {tab : List ℕ} → Ready tables tab → (vs : List ℤ) (work : List ℕ) (r : ℕ)
+pub plan-sized : {tables : List (List Structure)} {tab : List ℕ} → Compiled tables tab → (vs : List ℤ) (work : List ℕ) (r : ℕ)
     → r ≤ 524282 → Planned tables vs work r → Sized tables vs r
 plan-sized {tables} ready vs work r most plan = go (decLt (plan .costs 1) cap) (decLt cap (plan .costs 1))
   where

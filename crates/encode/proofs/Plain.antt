@@ -13,7 +13,7 @@ use lib.Seq.{length-take-le, take-all}
 use lib.Signed.{mag}
 use Rattle.wire.specs.Numbers.{bytesOf}
 use Rattle.wire.proofs.Laws.{put-next}
-use Rattle.bits.specs.InnerRaised.{lower}
+use Rattle.bits.specs.InnerRaised.{fromZero}
 use Rattle.bits.proofs.Laws.{length-bitsIn}
 use Rattle.bits.proofs.Raised.{mag-inside, mag-outside}
 use Rattle.tables.specs.declared.Structure.{Structure}
@@ -30,7 +30,7 @@ use Rattle.encode.specs.InnerEncode.{Sized}
 abbrev pub Inside : List ℤ → ℕ → Type 0
 Inside vs i = (k : ℕ) → k < i → mag (getD vs k (pos 0)) < 32768
 
-pub inside-more : (vs : List ℤ) (i x : ℕ) → lower 131072 x ≡ getD vs i (pos 0) → 98304 ≤ x → x < 163840 → Inside vs i → Inside vs (i + 1)
+pub inside-more : (vs : List ℤ) (i x : ℕ) → fromZero 131072 x ≡ getD vs i (pos 0) → 98304 ≤ x → x < 163840 → Inside vs i → Inside vs (i + 1)
 inside-more vs i x e h l before = below-more (λ (k : ℕ). mag (getD vs k (pos 0)) < 32768) i before (rw e at (mag-inside 131072 x 32768 (omega arith) (omega arith)))
 
 length-plain : (vs : List ℤ) → length (plainBits vs) ≡ length vs * 16
@@ -40,14 +40,14 @@ length-plain vs = omega (arith, length-bitsIn (plainBytes vs), length-plainBytes
 pub plain-sized : (vs : List ℤ) (r : ℕ) → Inside vs (length vs) → r ≡ min 524281 (length vs * 16) → Sized [] vs r
 plain-sized vs r h e = (some (plainBits vs), plain-shortest vs h, e ∙ ap (λ (n : ℕ). min 524281 n) (sym (length-plain vs)))
 
-pub plain-unsized : (vs : List ℤ) (i x : ℕ) → i < length vs → lower 131072 x ≡ getD vs i (pos 0)
+pub plain-unsized : (vs : List ℤ) (i x : ℕ) → i < length vs → fromZero 131072 x ≡ getD vs i (pos 0)
     → (x < 98304) ⊎ (163840 ≤ x) → Sized [] vs 524282
 plain-unsized vs i x h e o =
     let outside : (x + 32768 < 131072) ⊎ (131072 + 32768 ≤ x) = ⊎-elim (λ l. inl (omega arith)) (λ l. inr (omega arith)) o in
     (none, plain-none vs i h (rw e at (mag-outside 131072 x 32768 outside)), refl)
 
 -- the bytes of one value more
-pub plain-put : (vs : List ℤ) (out₀ out : List ℕ) (i x n : ℕ) → i < length vs → lower 131072 x ≡ getD vs i (pos 0) → n ≡ x % 65536
+pub plain-put : (vs : List ℤ) (out₀ out : List ℕ) (i x n : ℕ) → i < length vs → fromZero 131072 x ≡ getD vs i (pos 0) → n ≡ x % 65536
     → out ≡ plainBytes (take i vs) ++ drop (i * 2) out₀
     → take (i * 2) out ++ (bytesOf 2 n ++ drop (i * 2 + 2) out) ≡ plainBytes (take (i + 1) vs) ++ drop ((i + 1) * 2) out₀
 plain-put vs out₀ out i x n h value bytes before =

@@ -11,13 +11,13 @@ use lib.IntN.{ℤ, pos}
 use lib.ListN.{length, getD, take, drop, length-append, drop-of-length-le}
 use lib.Seq.{drop-cons}
 use Rattle.bits.specs.Bits.{highFirst, bitsIn}
-use Rattle.bits.specs.InnerRaised.{lower}
+use Rattle.bits.specs.InnerRaised.{fromZero}
 use Rattle.bits.specs.InnerWindow.{turned}
 use Rattle.bits.proofs.Laws.{length-lowFirst, length-highFirst, small-lowFirst, own-bits}
 use Rattle.tables.specs.declared.Structure.{Structure}
 use Rattle.tables.specs.Structures.{structureRight, prefixOf, remainderOf}
 use Rattle.compiled.specs.declared.Form.{Form}
-use Rattle.compiled.specs.InnerForm.{formOf, Ready}
+use Rattle.compiled.specs.InnerForm.{formOf, Compiled}
 use Rattle.compiled.proofs.Laws.{FineForm}
 use Rattle.reading.proofs.Laws.{to-value}
 use Rattle.packing.specs.declared.Sink.{Sink}
@@ -32,9 +32,9 @@ use Rattle.shortest.specs.InnerRule.{twos, kindOf, wordOf, structureOf, rule}
 use Rattle.shortest.proofs.Laws.{kind-switch, leads-switch}
 use Rattle.shortest.proofs.Forms.{form-leads}
 use Rattle.shortest.proofs.Bridge.{sound, shortest-of, unique}
-use Rattle.search.specs.InnerSearch.{FilledBy, cap, Trail, Planned, countOf, formIn}
+use Rattle.search.specs.InnerSearch.{CompiledCount, cap, Trail, Planned, countOf, formIn}
 use Rattle.search.proofs.Laws.{counted, count-most, form-there, right-there, small-there, fine-there}
-use Rattle.encode.specs.InnerEncode.{codeOf, On, Going}
+use Rattle.encode.specs.InnerEncode.{codeOf, PartWritten, PartWrittenBy}
 
 -- ---- a code put behind what was written
 
@@ -68,8 +68,8 @@ rest-on out₀ out out′ s r w c h g before here =
 
 -- ---- one set of tables
 
-on-start : {tables : List (List Structure)} {tab : List ℕ} (ready : Ready tables tab) (vs : List ℤ) (work : List ℕ) (total : ℕ)
-    (out : List ℕ) (sink : Sink) → Planned tables vs work total → total < cap → Holds out sink [] → On tables vs total out sink 0 1 total
+on-start : {tables : List (List Structure)} {tab : List ℕ} (ready : Compiled tables tab) (vs : List ℤ) (work : List ℕ) (total : ℕ)
+    (out : List ℕ) (sink : Sink) → Planned tables vs work total → total < cap → Holds out sink [] → PartWritten tables vs total out sink 0 1 total
 on-start {tables} ready vs work total out sink plan few holds =
     let first : There (rule tables) 1 = (omega arith, ready .some) in
     let b = plan .exact .best 1 first (omega (arith, plan .total)) in
@@ -93,9 +93,9 @@ alive-gives c v m a = go (kindOf c v) refl a
     go gives e b = refl
     go (leads u) e b = absurd (m (leads-switch c v u e .0))
 
-module _ {tables : List (List Structure)} {tab : List ℕ} (ready : Ready tables tab) (vs : List ℤ) (work : List ℕ) (n total : ℕ)
+module _ {tables : List (List Structure)} {tab : List ℕ} (ready : Compiled tables tab) (vs : List ℤ) (work : List ℕ) (n total : ℕ)
     (many : length tables ≡ n) (way : Trail tables vs work 0) (few : total < cap) (out : List ℕ) (sink : Sink) (i t left : ℕ)
-    (O : On tables vs total out sink i t left) (more : 0 < left) where
+    (O : PartWritten tables vs total out sink i t left) (more : 0 < left) where
   -- a sample is left
   inside : i < length vs
   inside = go (decLt i (length vs))
@@ -154,7 +154,7 @@ module _ {tables : List (List Structure)} {tab : List ℕ} (ready : Ready tables
     -- its code is put
     module _ (out′ : List ℕ) (sink′ : Sink) (put : Holds out′ sink′ (O .w ++ codeOf f (getD vs i (pos 0)))) where
       onward : (i′ t′ : ℕ) → There (rule tables) t′ → Best (rule tables) t′ (drop i′ vs) (hop .rest)
-          → On tables vs total out′ sink′ i′ t′ (left - (f .prefix + f .remainder))
+          → PartWritten tables vs total out′ sink′ i′ t′ (left - (f .prefix + f .remainder))
       onward i′ t′ there best = record {
         table = there;
         s = hop .rest;
@@ -167,19 +167,19 @@ module _ {tables : List (List Structure)} {tab : List ℕ} (ready : Ready tables
       }
 
       -- a value: on to the next sample
-      on-value : f .to ≡ 0 → On tables vs total out′ sink′ (i + 1) t (left - (f .prefix + f .remainder))
+      on-value : f .to ≡ 0 → PartWritten tables vs total out′ sink′ (i + 1) t (left - (f .prefix + f .remainder))
       on-value z =
           let c = structureOf tables t (getD work (i * n + (t - 1)) 0) in
           let kind = alive-gives c (getD vs i (pos 0)) (to-value 8 c right (ap (λ (g : Form). g .to) form ∙ z)) (hop .alive) in
           onward (i + 1) t (O .table) (rw kind at (hop .after))
 
       -- a switch: on to its table
-      on-switch : (f .to ≡ 0 → ⊥) → On tables vs total out′ sink′ i (f .to) (left - (f .prefix + f .remainder))
+      on-switch : (f .to ≡ 0 → ⊥) → PartWritten tables vs total out′ sink′ i (f .to) (left - (f .prefix + f .remainder))
       on-switch h =
           let k = getD work (i * n + (t - 1)) 0 in
           let c = structureOf tables t k in
           let v = getD vs i (pos 0) in
-          let to = leads-switch c (lower 131072 0) (f .to) (form-leads 8 c right small f form 0 h) in
+          let to = leads-switch c (fromZero 131072 0) (f .to) (form-leads 8 c right small f form 0 h) in
           let kind : kindOf c v ≡ leads (f .to) = kind-switch c v (to .0) ∙ ap leads (to .1) in
           onward i (f .to) (sound tables (ready .right) (ready .some) .onto t k (f .to) v (O .table) (hop .inside) kind)
           (rw (drop-cons vs i (pos 0) inside, ← add-one i) (rw kind at (hop .after)))
@@ -191,17 +191,17 @@ pub place-room : (i t n samples room : ℕ) → i < samples → 1 ≤ t → t �
 place-room i t n samples room hi ht hn h = omega (arith, suc-mul i n, mul-le-mul-right n hi)
 
 pub going-start : {tab : List ℕ} {n : ℕ} {vs : List ℤ} {work : List ℕ} {total : ℕ} (out : List ℕ) (sink : Sink)
-    → ((tables : List (List Structure)) → Ready tables tab → length tables ≡ n → Planned tables vs work total)
-    → total < cap → Holds out sink [] → Going tab n vs total out out sink 0 1 total
+    → ((tables : List (List Structure)) → Compiled tables tab → length tables ≡ n → Planned tables vs work total)
+    → total < cap → Holds out sink [] → PartWrittenBy tab n vs total out out sink 0 1 total
 going-start {vs = vs} {work = work} {total = total} out sink plan few holds = record {
   same = refl;
   behind = refl;
   on = λ tables ready many. on-start ready vs work total out sink (plan tables ready many) few holds;
 }
 
-module _ {tab : List ℕ} {n : ℕ} {vs : List ℤ} {total : ℕ} {out₀ out : List ℕ} {sink : Sink} {i t left : ℕ} (filled : FilledBy tab n)
-    (G : Going tab n vs total out₀ out sink i t left) where
-  on-some : On (filled .0) vs total out sink i t left
+module _ {tab : List ℕ} {n : ℕ} {vs : List ℤ} {total : ℕ} {out₀ out : List ℕ} {sink : Sink} {i t left : ℕ} (filled : CompiledCount tab n)
+    (G : PartWrittenBy tab n vs total out₀ out sink i t left) where
+  on-some : PartWritten (filled .0) vs total out sink i t left
   on-some = G .on (filled .0) (filled .1) (filled .2)
 
   pub next-table : (1 ≤ t) × (t ≤ n) × (n ≤ 8)
@@ -214,7 +214,7 @@ module _ {tab : List ℕ} {n : ℕ} {vs : List ℤ} {total : ℕ} {out₀ out : 
       (h .part, h .acc, omega (arith, holds-length out sink (on-some .w) h, on-some .sum))
 
   -- the next code, found in the work space
-  module _ {work : List ℕ} (plan : (tables : List (List Structure)) → Ready tables tab → length tables ≡ n → Planned tables vs work total)
+  module _ {work : List ℕ} (plan : (tables : List (List Structure)) → Compiled tables tab → length tables ≡ n → Planned tables vs work total)
       (few : total < cap) (more : 0 < left) where
     way : Trail (filled .0) vs work 0
     way = plan (filled .0) (filled .1) (filled .2) .trail
@@ -236,9 +236,9 @@ module _ {tab : List ℕ} {n : ℕ} {vs : List ℤ} {total : ℕ} {out₀ out : 
       module _ (out′ : List ℕ) (sink′ : Sink) (put : (bs : List ℕ) → Holds out sink bs → Holds out′ sink′ (bs ++ codeOf f (getD vs i (pos 0))))
           (long : length out′ ≡ length out) (back : drop (sink′ .at) out′ ≡ drop (sink′ .at) out) where
         going-on : (i′ t′ : ℕ)
-            → ((tables : List (List Structure)) → Ready tables tab → length tables ≡ n
-            → On tables vs total out′ sink′ i′ t′ (left - (f .prefix + f .remainder)))
-            → Going tab n vs total out₀ out′ sink′ i′ t′ (left - (f .prefix + f .remainder))
+            → ((tables : List (List Structure)) → Compiled tables tab → length tables ≡ n
+            → PartWritten tables vs total out′ sink′ i′ t′ (left - (f .prefix + f .remainder)))
+            → PartWrittenBy tab n vs total out₀ out′ sink′ i′ t′ (left - (f .prefix + f .remainder))
         going-on i′ t′ on = record {
           same = long ∙ G .same;
           behind = (let O = on-some in
@@ -246,14 +246,14 @@ module _ {tab : List ℕ} {n : ℕ} {vs : List ℤ} {total : ℕ} {out₀ out : 
           on = on;
         }
 
-        pub going-value : f .to ≡ 0 → Going tab n vs total out₀ out′ sink′ (i + 1) t (left - (f .prefix + f .remainder))
+        pub going-value : f .to ≡ 0 → PartWrittenBy tab n vs total out₀ out′ sink′ (i + 1) t (left - (f .prefix + f .remainder))
         going-value z =
             going-on (i + 1) t (λ tables ready many.
             let O = G .on tables ready many in
             on-value ready vs work n total many (plan tables ready many .trail) few out sink i t left O more f e out′ sink′
             (put (O .w) (O .holds)) z)
 
-        pub going-switch : (f .to ≡ 0 → ⊥) → Going tab n vs total out₀ out′ sink′ i (f .to) (left - (f .prefix + f .remainder))
+        pub going-switch : (f .to ≡ 0 → ⊥) → PartWrittenBy tab n vs total out₀ out′ sink′ i (f .to) (left - (f .prefix + f .remainder))
         going-switch h =
             going-on i (f .to) (λ tables ready many.
             let O = G .on tables ready many in
@@ -262,8 +262,8 @@ module _ {tab : List ℕ} {n : ℕ} {vs : List ℤ} {total : ℕ} {out₀ out : 
 
 -- the walk went on from where it had come to
 pub going-then : {tab : List ℕ} {n : ℕ} {vs : List ℤ} {total : ℕ} {out₀ out out′ : List ℕ} {s s′ : Sink} {i t left i′ t′ left′ : ℕ}
-    → FilledBy tab n → Going tab n vs total out₀ out s i t left → Going tab n vs total out out′ s′ i′ t′ left′ → left′ < left
-    → Going tab n vs total out₀ out′ s′ i′ t′ left′
+    → CompiledCount tab n → PartWrittenBy tab n vs total out₀ out s i t left → PartWrittenBy tab n vs total out out′ s′ i′ t′ left′ → left′ < left
+    → PartWrittenBy tab n vs total out₀ out′ s′ i′ t′ left′
 going-then {out₀ = out₀} {out = out} {s = s} {s′ = s′} filled G H less =
     let later : s .at ≤ s′ .at = omega (arith, next-sink filled G, next-sink filled H) in record {
       same = H .same ∙ G .same;
@@ -273,9 +273,9 @@ going-then {out₀ = out₀} {out = out} {s = s} {s′ = s′} filled G H less =
 
 -- nothing is left: the stream stands at the front
 pub going-end : {tab : List ℕ} {n : ℕ} {vs : List ℤ} {total : ℕ} {out₀ out : List ℕ} {sink : Sink} {i t left : ℕ}
-    (G : Going tab n vs total out₀ out sink i t left) → left ≡ 0 → (out′ : List ℕ)
+    (G : PartWrittenBy tab n vs total out₀ out sink i t left) → left ≡ 0 → (out′ : List ℕ)
     → ((bs : List ℕ) → Holds out sink bs → out′ ≡ packed bs ++ drop (length (packed bs)) out)
-    → (tables : List (List Structure)) → Ready tables tab → length tables ≡ n → (bs : List ℕ) → Shortest tables vs bs
+    → (tables : List (List Structure)) → Compiled tables tab → length tables ≡ n → (bs : List ℕ) → Shortest tables vs bs
     → out′ ≡ packed bs ++ drop (bytesFor (length bs)) out₀
 going-end {out₀ = out₀} {out = out} {sink = sink} G none out′ put tables ready many bs h =
     let O = G .on tables ready many in

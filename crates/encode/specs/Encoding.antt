@@ -8,6 +8,7 @@ use mathlib.Core.Option.{Option, none, some}
 use lib.Dec.{leb, eqb}
 use lib.IntN.{ℤ}
 use lib.ListN.{length, drop, replicate}
+use Rattle.wire.specs.Bounds.{mostSamples, mostStreamBytes}
 use Rattle.wire.specs.RuleWords.{unless}
 use Rattle.tables.specs.declared.Structure.{Structure}
 use Rattle.tables.specs.Section2.{tablesIn, section2Right}
@@ -22,7 +23,7 @@ tablesGiven s2 = cond (eqb (length s2) 0) [] (tablesIn s2 0)
 
 -- 17: 1 to 65,536 samples, and a difference order of 0 to 2
 unfoldable pub askedRight : ℕ → ℕ → Bool
-askedRight count order = leb 1 count && (leb count 65536 && leb order 2)
+askedRight count order = leb 1 count && (leb count mostSamples && leb order 2)
 
 -- 7: the data are empty, or keep Section 2's rule with no spare byte
 unfoldable pub tablesGivenRight : List ℕ → Bool
@@ -46,7 +47,7 @@ SearchFinds tables vs (some bs) = Shortest tables vs bs
 unfoldable pub foundRefusal : ℕ → Option (List ℕ) → ℕ
 foundRefusal room none = 15
 foundRefusal room (some bs) =
-    unless (leb (bytesFor (length bs)) 65535) 16 (unless (leb (bytesFor (length bs)) room) 11 0)
+    unless (leb (bytesFor (length bs)) mostStreamBytes) 16 (unless (leb (bytesFor (length bs)) room) 11 0)
 
 -- a refusal is its number and nothing else; else the bytes and the bits of the stream are answered. The case `zero none` is never
 -- met: without a stream the number is 15

@@ -9,13 +9,13 @@ use lib.ListN.{length, drop, replicate}
 use Rattle.bits.specs.Bits.{highFirst}
 use Rattle.tables.specs.declared.Structure.{Structure}
 use Rattle.compiled.specs.declared.Form.{Form}
-use Rattle.compiled.specs.InnerForm.{Ready, Holding}
+use Rattle.compiled.specs.InnerForm.{roomNumbers, Compiled, CompiledOrNone}
 use Rattle.packing.specs.declared.Sink.{Sink}
 use Rattle.packing.specs.InnerSink.{Holds}
 use Rattle.paths.specs.InnerPaths.{There, Best}
 use Rattle.shortest.specs.Shortest.{Shortest}
 use Rattle.shortest.specs.InnerRule.{twos, rule}
-use Rattle.search.specs.InnerSearch.{Planned}
+use Rattle.search.specs.InnerSearch.{cap, Planned}
 use Rattle.encode.specs.declared.Coded.{Coded}
 use Rattle.encode.specs.Encoding.{SearchFinds, foundRefusal, codedAs, outAs}
 
@@ -26,7 +26,7 @@ codeOf f v = highFirst (f .prefix) (f .word) ++ highFirst (f .remainder) (twos (
 -- ---- the walk of a stream
 
 -- w is written, s is left, and together they are the shortest stream
-pub record On (tables : List (List Structure)) (vs : List ℤ) (total : ℕ) (out : List ℕ) (sink : Sink) (i t left : ℕ) : Type 0 where
+pub record PartWritten (tables : List (List Structure)) (vs : List ℤ) (total : ℕ) (out : List ℕ) (sink : Sink) (i t left : ℕ) : Type 0 where
   pub table : There (rule tables) t
   pub s : List ℕ
   pub best : Best (rule tables) t (drop i vs) s
@@ -37,21 +37,21 @@ pub record On (tables : List (List Structure)) (vs : List ℤ) (total : ℕ) (ou
   pub all : (z : List ℕ) → Shortest tables vs z → z ≡ w ++ s
 
 -- so it is for all sets of tables that the numbers say, and behind the sink the output is as it was
-pub record Going (tab : List ℕ) (n : ℕ) (vs : List ℤ) (total : ℕ) (out₀ out : List ℕ) (sink : Sink) (i t left : ℕ) : Type 0 where
+pub record PartWrittenBy (tab : List ℕ) (n : ℕ) (vs : List ℤ) (total : ℕ) (out₀ out : List ℕ) (sink : Sink) (i t left : ℕ) : Type 0 where
   pub same : length out ≡ length out₀
   pub behind : drop (sink .at) out ≡ drop (sink .at) out₀
-  pub on : (tables : List (List Structure)) → Ready tables tab → length tables ≡ n → On tables vs total out sink i t left
+  pub on : (tables : List (List Structure)) → Compiled tables tab → length tables ≡ n → PartWritten tables vs total out sink i t left
 
 -- ---- a lead's stream
 
 -- the numbers hold some n tables, or none where n is 0
-abbrev pub HeldBy : List ℕ → ℕ → Type 0
-HeldBy tab n = (tables : List (List Structure)) × Holding tables tab × (length tables ≡ n)
+abbrev pub CompiledOrNoneCount : List ℕ → ℕ → Type 0
+CompiledOrNoneCount tab n = (tables : List (List Structure)) × CompiledOrNone tables tab × (length tables ≡ n)
 
 -- how many bits were found: 524,281 for that many and more, 524,282 for no stream
 abbrev pub bitsFound : Option (List ℕ) → ℕ
-bitsFound none = 524282
-bitsFound (some bs) = min 524281 (length bs)
+bitsFound none = suc cap
+bitsFound (some bs) = min cap (length bs)
 
 -- r is how many bits the shortest stream has
 abbrev pub Sized : List (List Structure) → List ℤ → ℕ → Type 0
@@ -75,4 +75,4 @@ clearedIf (suc n) work = replicate (length work) 0
 -- how many numbers hold the tables of Section 2's data, of which there are so many bytes
 abbrev pub heldFor : ℕ → ℕ
 heldFor zero = 0
-heldFor (suc n) = 5128
+heldFor (suc n) = roomNumbers

@@ -10,12 +10,12 @@ ghost use Rattle.packing.specs.Packing.{packed, bytesFor};
 ghost use Rattle.packing.specs.InnerSink.{Holds};
 ghost use Rattle.samples.specs.Differences.{differences};
 ghost use Rattle.tables.specs.declared.Structure.{Structure};
-ghost use Rattle.compiled.specs.InnerForm.{Ready, Holding};
+ghost use Rattle.compiled.specs.InnerForm.{roomNumbers, Compiled, CompiledOrNone};
 ghost use Rattle.shortest.specs.Shortest.{Shortest};
 ghost use Rattle.shortest.specs.InnerRule.{plainBytes};
-ghost use Rattle.search.specs.InnerSearch.{FilledBy, Planned};
+ghost use Rattle.search.specs.InnerSearch.{CompiledCount, Planned};
 ghost use Rattle.encode.specs.Encoding.{tablesGiven, askedRight, tablesGivenRight, askedRefusal, foundRefusal, codedAs, LeadEncoding};
-ghost use Rattle.encode.specs.InnerEncode.{codeOf, Going, HeldBy, bitsFound, Sized, Laid, Written, clearedIf, heldFor};
+ghost use Rattle.encode.specs.InnerEncode.{codeOf, PartWrittenBy, CompiledOrNoneCount, bitsFound, Sized, Laid, Written, clearedIf, heldFor};
 use compiled::Form;
 use packing::Sink;
 
@@ -66,12 +66,12 @@ fn run(
     from: Gone,
     out: &mut [u8],
 ) -> Gone
-    requires { ⌜ FilledBy (now tab) n × (length (now xs) * n ≤ length (now work)) × (bits < 524281) × (bytesFor bits ≤ length (now out)) ⌝ }
-    requires { ⌜ ((tables : List (List Structure)) → Ready tables (now tab) → length tables ≡ n
+    requires { ⌜ CompiledCount (now tab) n × (length (now xs) * n ≤ length (now work)) × (bits < 524281) × (bytesFor bits ≤ length (now out)) ⌝ }
+    requires { ⌜ ((tables : List (List Structure)) → Compiled tables (now tab) → length tables ≡ n
         → Planned tables (differences order (now xs)) (now work) bits) ⌝ }
-    requires { ⌜ Going (now tab) n (differences order (now xs)) bits (now out) (now out) (from .sink) (from .i) (from .t) (from .left)
+    requires { ⌜ PartWrittenBy (now tab) n (differences order (now xs)) bits (now out) (now out) (from .sink) (from .i) (from .t) (from .left)
         × (0 < from .left) ⌝ }
-    ensures { λ r. ⌜ Going (now (tab .entry)) n (differences order (now (xs .entry))) bits (now (out .entry)) (now (out .exit))
+    ensures { λ r. ⌜ PartWrittenBy (now (tab .entry)) n (differences order (now (xs .entry))) bits (now (out .entry)) (now (out .exit))
         (r .sink) (r .i) (r .t) (r .left) × (r .left < from .left) ⌝ }
 {
     let t = from.t;
@@ -98,10 +98,10 @@ fn run(
 
 // The stream whose way is in the work space, at the front of the output: from table 1 and the first sample on, one table after another.
 fn walk(tab: &[u32], n: usize, xs: &[i16], order: usize, work: &[u8], bits: usize, out: &mut [u8])
-    requires { ⌜ FilledBy (now tab) n × (length (now xs) * n ≤ length (now work)) × (bits < 524281) × (bytesFor bits ≤ length (now out)) ⌝ }
-    requires { ⌜ ((tables : List (List Structure)) → Ready tables (now tab) → length tables ≡ n
+    requires { ⌜ CompiledCount (now tab) n × (length (now xs) * n ≤ length (now work)) × (bits < 524281) × (bytesFor bits ≤ length (now out)) ⌝ }
+    requires { ⌜ ((tables : List (List Structure)) → Compiled tables (now tab) → length tables ≡ n
         → Planned tables (differences order (now xs)) (now work) bits) ⌝ }
-    ensures { λ _. ⌜ ((tables : List (List Structure)) → Ready tables (now (tab .entry)) → length tables ≡ n
+    ensures { λ _. ⌜ ((tables : List (List Structure)) → Compiled tables (now (tab .entry)) → length tables ≡ n
         → (bs : List ℕ) → Shortest tables (differences order (now (xs .entry))) bs
         → now (out .exit) ≡ packed bs ++ drop (bytesFor (length bs)) (now (out .entry))) ⌝ }
 {
@@ -159,8 +159,8 @@ fn put_plain(xs: &[i16], order: usize, out: &mut [u8])
 // How many bits the shortest stream for the samples' differences has: 524,281 for that many and more, 524,282 for no stream. Where
 // there are tables, its way is left in the work space, a byte for each sample and table.
 pub fn stream_bits(tab: &[u32], n: usize, xs: &[i16], order: usize, work: &mut [u8]) -> usize
-    requires { ⌜ HeldBy (now tab) n × (length (now xs) ≤ 65536) × (length (now xs) * n ≤ length (now work)) ⌝ }
-    ensures { λ r. ⌜ ((tables : List (List Structure)) → Holding tables (now (tab .entry)) → length tables ≡ n
+    requires { ⌜ CompiledOrNoneCount (now tab) n × (length (now xs) ≤ 65536) × (length (now xs) * n ≤ length (now work)) ⌝ }
+    ensures { λ r. ⌜ ((tables : List (List Structure)) → CompiledOrNone tables (now (tab .entry)) → length tables ≡ n
         → Sized tables (differences order (now (xs .entry))) r
         × Laid tables (differences order (now (xs .entry))) (now (work .exit)) r)
         × (length (now (tab .entry)) ≡ 0 → now (work .exit) ≡ now (work .entry)) ⌝ }
@@ -181,10 +181,10 @@ pub fn put_stream(
     bits: usize,
     out: &mut [u8],
 )
-    requires { ⌜ HeldBy (now tab) n × (length (now xs) * n ≤ length (now work)) × (bits < 524281) × (bytesFor bits ≤ length (now out)) ⌝ }
-    requires { ⌜ ((tables : List (List Structure)) → Holding tables (now tab) → length tables ≡ n
+    requires { ⌜ CompiledOrNoneCount (now tab) n × (length (now xs) * n ≤ length (now work)) × (bits < 524281) × (bytesFor bits ≤ length (now out)) ⌝ }
+    requires { ⌜ ((tables : List (List Structure)) → CompiledOrNone tables (now tab) → length tables ≡ n
         → Sized tables (differences order (now xs)) bits × Laid tables (differences order (now xs)) (now work) bits) ⌝ }
-    ensures { λ _. ⌜ ((tables : List (List Structure)) → Holding tables (now (tab .entry)) → length tables ≡ n
+    ensures { λ _. ⌜ ((tables : List (List Structure)) → CompiledOrNone tables (now (tab .entry)) → length tables ≡ n
         → (bs : List ℕ) → Shortest tables (differences order (now (xs .entry))) bs
         → now (out .exit) ≡ packed bs ++ drop (bytesFor (length bs)) (now (out .entry))) ⌝ }
 {
@@ -243,8 +243,8 @@ fn write_stream(
     work: &mut [u8],
     out: &mut [u8],
 ) -> Coded
-    requires { ⌜ HeldBy (now tab) n × (length (now xs) ≤ 65536) × (length (now xs) * n ≤ length (now work)) ⌝ }
-    ensures { λ r. ⌜ ((tables : List (List Structure)) → Holding tables (now (tab .entry)) → length tables ≡ n
+    requires { ⌜ CompiledOrNoneCount (now tab) n × (length (now xs) ≤ 65536) × (length (now xs) * n ≤ length (now work)) ⌝ }
+    ensures { λ r. ⌜ ((tables : List (List Structure)) → CompiledOrNone tables (now (tab .entry)) → length tables ≡ n
         → Written tables (differences order (now (xs .entry))) (now (out .entry)) r (now (out .exit)))
         × (length (now (tab .entry)) ≡ 0 → now (work .exit) ≡ now (work .entry)) ⌝ }
 {
@@ -277,8 +277,8 @@ fn encode_by(
     work: &mut [u8],
     out: &mut [u8],
 ) -> Coded
-    requires { ⌜ HeldBy (now tab) n × (length (now xs) ≤ 65536) × (length (now xs) * n ≤ length (now work)) ⌝ }
-    ensures { λ r. ⌜ ((tables : List (List Structure)) → Holding tables (now (tab .entry)) → length tables ≡ n
+    requires { ⌜ CompiledOrNoneCount (now tab) n × (length (now xs) ≤ 65536) × (length (now xs) * n ≤ length (now work)) ⌝ }
+    ensures { λ r. ⌜ ((tables : List (List Structure)) → CompiledOrNone tables (now (tab .entry)) → length tables ≡ n
         → Written tables (differences order (now (xs .entry))) (now (out .entry)) r (now (out .exit)))
         × (now (work .exit) ≡ clearedIf (length (now (tab .entry))) (now (work .entry))) ⌝ }
 {
@@ -345,15 +345,15 @@ fn asked_refusal(section2: &[u8], count: usize, order: usize, work: usize) -> u8
 
 // Room of its own for the numbers of the code tables, all of them 0.
 pub fn table_room() -> [u32; compiled::ROOM]
-    ensures { λ r. ⌜ r ≡ replicate 5128 0 ⌝ }
+    ensures { λ r. ⌜ r ≡ replicate roomNumbers 0 ⌝ }
 {
     [0; compiled::ROOM]
 }
 
 // Section 2's tables are taken apart into the room; answered is how many of its numbers hold them, 0 without Section 2.
 pub fn hold_tables(section2: &[u8], tab: &mut [u32]) -> usize
-    requires { ⌜ (length (now tab) ≡ 5128) × (tablesGivenRight (now section2) ≡ true) ⌝ }
-    ensures { λ r. ⌜ (r ≤ 5128) × Holding (tablesGiven (now (section2 .entry))) (take r (now (tab .exit)))
+    requires { ⌜ (length (now tab) ≡ roomNumbers) × (tablesGivenRight (now section2) ≡ true) ⌝ }
+    ensures { λ r. ⌜ (r ≤ roomNumbers) × CompiledOrNone (tablesGiven (now (section2 .entry))) (take r (now (tab .exit)))
         × (r ≡ heldFor (length (now (section2 .entry)))) ⌝ }
 {
     if section2.len() == 0 {

@@ -4,6 +4,7 @@ use Prim.Native.Nat.{ℕ, _+_, _-_, _*_, _%_}
 use mathlib.Core.Bool.{Bool, _&&_}
 use mathlib.Core.List.{List}
 use lib.Dec.{leb, eqb}
+use Rattle.wire.specs.Bounds.{mostLeads, mostSamples}
 use Rattle.wire.specs.Numbers.{byteAt, numberAt}
 use Rattle.wire.specs.RuleWords.{allIn, endsBy}
 
@@ -34,10 +35,10 @@ sampleCount s k = lastSample s k + 1 - firstSample s k
 
 -- a lead's first sample has number 1 or more, its last is not before it, and there are at most 65,536
 unfoldable pub leadRight : List ℕ → ℕ → Bool
-leadRight s k = leb 1 (firstSample s k) && (leb (firstSample s k) (lastSample s k) && leb (sampleCount s k) 65536)
+leadRight s k = leb 1 (firstSample s k) && (leb (firstSample s k) (lastSample s k) && leb (sampleCount s k) mostSamples)
 
 -- 1 to 32 leads, each by its rule, and behind them at most one spare byte
 unfoldable pub section3Right : List ℕ → Bool
 section3Right s =
     leb 1 (leadCount s)
-    && (leb (leadCount s) 32 && (allIn 0 (leadCount s) (leadRight s) && endsBy 1 s (18 + 9 * leadCount s)))
+    && (leb (leadCount s) mostLeads && (allIn 0 (leadCount s) (leadRight s) && endsBy 1 s (18 + 9 * leadCount s)))

@@ -5,6 +5,7 @@ use mathlib.Core.Bool.{Bool, _&&_, cond}
 use mathlib.Core.List.{List}
 use lib.Dec.{leb, ltb, eqb}
 use lib.ListN.{length}
+use Rattle.wire.specs.Bounds.{mostSamples, mostQrs}
 use Rattle.wire.specs.Numbers.{numberAt}
 use Rattle.wire.specs.RuleWords.{allIn}
 
@@ -59,8 +60,8 @@ zoneRight samples s k =
 unfoldable pub section4Right : ℕ → List ℕ → Bool
 section4Right samples s =
     leb 1 samples
-    && (leb samples 65536
+    && (leb samples mostSamples
     && (leb 1 (fiducialOf s)
     && (leb (fiducialOf s) samples
-    && (leb (qrsCount s) 1024
+    && (leb (qrsCount s) mostQrs
     && (leb (22 + 14 * qrsCount s) (length s) && allIn 0 (qrsCount s) (zoneRight samples s))))))

@@ -7,7 +7,7 @@ ghost use Prim.Native.Nat.{ℕ, _+_, _-_, _<_, _≤_};
 ghost use lib.IntN.{ℤ, pos};
 ghost use lib.ListN.{length, take, drop, replicate};
 ghost use Rattle.rules.specs.LeadRules.{tablesRight, leadCountOf, beatSubtracted, beatSampleCount, leadRefusal};
-ghost use Rattle.compiled.specs.InnerForm.{Holding};
+ghost use Rattle.compiled.specs.InnerForm.{roomNumbers, CompiledOrNone};
 ghost use Rattle.samples.specs.Trace.{rebuilt, fault};
 ghost use Rattle.samples.specs.InnerTrace.{traceOf};
 ghost use Rattle.leads.specs.LeadTrace.{tablesOf, sampleCountAt, streamTrace, traceAt, roomRight, readRefusal, readTrace};
@@ -82,8 +82,8 @@ fn copy(xs: &[i16], out: &mut [i16])
 
 // The record's code tables are taken apart into the room; answered is how many of its numbers hold them, 0 without Section 2.
 fn hold_tables(rec: &[u8], tab: &mut [u32]) -> usize
-    requires { ⌜ (length (now tab) ≡ 5128) × (tablesRight (now rec) ≡ true) ⌝ }
-    ensures { λ r. ⌜ (r ≤ 5128) × Holding (tablesOf (now (rec .entry))) (take r (now (tab .exit))) ⌝ }
+    requires { ⌜ (length (now tab) ≡ roomNumbers) × (tablesRight (now rec) ≡ true) ⌝ }
+    ensures { λ r. ⌜ (r ≤ roomNumbers) × CompiledOrNone (tablesOf (now (rec .entry))) (take r (now (tab .exit))) ⌝ }
 {
     if !pointers::is_present(rec, 2) {
         return 0;
@@ -94,7 +94,7 @@ fn hold_tables(rec: &[u8], tab: &mut [u32]) -> usize
 
 // Lead k's stream in Section 5 or 6 is rebuilt into the room: 0, or the number of the fault met.
 fn stream_into(rec: &[u8], section: usize, k: usize, tab: &[u32], room: &mut [i16]) -> u8
-    requires { ⌜ Holding (tablesOf (now rec)) (now tab) × (section < 64) × (k < leadCountOf (now rec)) ⌝ }
+    requires { ⌜ CompiledOrNone (tablesOf (now rec)) (now tab) × (section < 64) × (k < leadCountOf (now rec)) ⌝ }
     ensures { λ r. ⌜ (traceOf r (now (room .exit)) ≡ streamTrace (now (rec .entry)) section (length (now (room .entry))) k)
         × (length (now (room .exit)) ≡ length (now (room .entry))) ⌝ }
 {
@@ -105,7 +105,7 @@ fn stream_into(rec: &[u8], section: usize, k: usize, tab: &[u32], room: &mut [i1
 
 // The beat is rebuilt, then the residual in the room, and the beat is added to it.
 fn with_beat(rec: &[u8], k: usize, tab: &[u32], room: &mut [i16], beat: &mut [i16]) -> u8
-    requires { ⌜ Holding (tablesOf (now rec)) (now tab) ⌝ }
+    requires { ⌜ CompiledOrNone (tablesOf (now rec)) (now tab) ⌝ }
     requires { ⌜ Readable (now rec) k (length (now beat)) ⌝ }
     requires { ⌜ (length (now room) ≡ sampleCountAt (now rec) k) × (length (now beat) ≡ beatSampleCount (now rec))
         × (beatSubtracted (now rec) ≡ true) ⌝ }
@@ -125,7 +125,7 @@ fn with_beat(rec: &[u8], k: usize, tab: &[u32], room: &mut [i16], beat: &mut [i1
 
 // Lead k is rebuilt in the room. Where a beat was subtracted it is rebuilt in the work space, all of which is then cleared.
 fn lead_into(rec: &[u8], k: usize, tab: &[u32], room: &mut [i16], work: &mut [i16]) -> u8
-    requires { ⌜ Holding (tablesOf (now rec)) (now tab) ⌝ }
+    requires { ⌜ CompiledOrNone (tablesOf (now rec)) (now tab) ⌝ }
     requires { ⌜ Readable (now rec) k (length (now work)) ⌝ }
     requires { ⌜ length (now room) ≡ sampleCountAt (now rec) k ⌝ }
     ensures { λ r. ⌜ (traceOf r (now (room .exit)) ≡ traceAt (now (rec .entry)) k)
@@ -150,7 +150,7 @@ fn lead_out(
     out: &mut [i16],
     work: &mut [i16],
 ) -> u8
-    requires { ⌜ Holding (tablesOf (now rec)) (now tab) ⌝ }
+    requires { ⌜ CompiledOrNone (tablesOf (now rec)) (now tab) ⌝ }
     requires { ⌜ Readable (now rec) k (length (now work)) ⌝ }
     requires { ⌜ (length (now room) ≡ sampleCountAt (now rec) k) × (sampleCountAt (now rec) k ≤ length (now out)) ⌝ }
     ensures { λ r. ⌜ ((xs : List ℤ) × (traceOf r xs ≡ traceAt (now (rec .entry)) k))
@@ -174,7 +174,7 @@ fn read_in(
     out: &mut [i16],
     work: &mut [i16],
 ) -> u8
-    requires { ⌜ Holding (tablesOf (now rec)) (now tab) ⌝ }
+    requires { ⌜ CompiledOrNone (tablesOf (now rec)) (now tab) ⌝ }
     requires { ⌜ Readable (now rec) k (length (now work)) ⌝ }
     requires { ⌜ (sampleCountAt (now rec) k ≤ length (now room)) × (sampleCountAt (now rec) k ≤ length (now out)) ⌝ }
     ensures { λ r. ⌜ ((xs : List ℤ) × (traceOf r xs ≡ traceAt (now (rec .entry)) k))

@@ -4,6 +4,7 @@ use Prim.Native.Nat.{ℕ, zero, suc, _+_, _*_, _-_, _/_, min}
 use mathlib.Core.Bool.{Bool, not}
 use mathlib.Core.List.{List, [], _∷_}
 use lib.Dec.{eqb}
+use Rattle.wire.specs.Bounds.{mostPointers}
 use Rattle.wire.specs.Numbers.{numberAt, part}
 
 -- Section 0 is at byte 7, and its length is in its header
@@ -13,13 +14,6 @@ section0Length r = numberAt 4 r 10
 -- a section's data start behind its header of 16 bytes
 abbrev pub dataAt : ℕ
 dataAt = 16
-
--- there are 12 to 64 pointers (01, Numbers that bound the work)
-abbrev pub fewestPointers : ℕ
-fewestPointers = 12
-
-abbrev pub mostPointers : ℕ
-mostPointers = 64
 
 -- how many pointers of 10 bytes that length holds behind the header. Never over the most that there may be: a longer Section 0 is then
 -- not 16 + 10 times this, and breaks rule 3, which also asks for the fewest

@@ -17,7 +17,7 @@ use lib.Seq.{drop-cons, drop-drop}
 use Rattle.wire.proofs.Laws.{unlike}
 use Rattle.wire.specs.RuleWords.{every}
 use Rattle.bits.specs.Bits.{signed, begins, bitsIn}
-use Rattle.bits.specs.InnerRaised.{lower}
+use Rattle.bits.specs.InnerRaised.{fromZero}
 use Rattle.bits.specs.InnerWindow.{Window}
 use Rattle.bits.proofs.Laws.{length-bitsIn, small-drop, small-bitsIn}
 use Rattle.tables.specs.declared.Structure.{Structure}
@@ -25,7 +25,7 @@ use Rattle.tables.specs.Structures.{prefixOf, remainderOf, structureRight, noSt
 use Rattle.tables.specs.Section2.{tableOf, tableRight}
 use Rattle.tables.proofs.Laws.{fine}
 use Rattle.compiled.specs.declared.Form.{Form}
-use Rattle.compiled.specs.InnerForm.{lowest, formOf, Ready, Holding}
+use Rattle.compiled.specs.InnerForm.{lowest, formOf, Compiled, CompiledOrNone}
 use Rattle.compiled.proofs.Laws.{FineForm, form-fine, held-right}
 use Rattle.reading.specs.Reading.{stuck, matching, valueOf, readWithin, readCoded, readPlain, readNext}
 use Rattle.reading.specs.InnerCursor.{Seen, formed, Onward, OnwardOf}
@@ -38,16 +38,16 @@ use Rattle.reading.proofs.Laws.{matched, table-at, read-switch, read-va
 -- ---- two's complement, 131,072 added
 
 -- a number of the lower half
-pub lower-low : (w n : ℕ) → n < 2 ^ w → lower 131072 (131072 + n) ≡ signed (suc w) n
-unfolding lower signed
+pub lower-low : (w n : ℕ) → n < 2 ^ w → fromZero 131072 (131072 + n) ≡ signed (suc w) n
+unfolding fromZero signed
 lower-low w n h =
     let e : suc w - 1 ≡ w = omega arith in
     let back : 131072 + n - 131072 ≡ n = omega arith in
     simp (e, lt-ltb n (2 ^ w) h, le-ltb (131072 + n) 131072 (omega arith), back)
 
 -- a number of the upper half
-pub lower-high : (w n : ℕ) → 2 ^ w ≤ n → n < 2 * 2 ^ w → 2 ^ w ≤ 65536 → lower 131072 (131072 + n - 2 * 2 ^ w) ≡ signed (suc w) n
-unfolding lower signed
+pub lower-high : (w n : ℕ) → 2 ^ w ≤ n → n < 2 * 2 ^ w → 2 ^ w ≤ 65536 → fromZero 131072 (131072 + n - 2 * 2 ^ w) ≡ signed (suc w) n
+unfolding fromZero signed
 lower-high w n h g l =
     let e : suc w - 1 ≡ w = omega arith in
     let x = 131072 + n - 2 * 2 ^ w in
@@ -55,10 +55,10 @@ lower-high w n h g l =
     simp (e, le-ltb n (2 ^ w) h, lt-ltb x 131072 (omega arith)) (ap negsuc back)
 
 -- a base value
-pub lower-base : (base : ℕ) → base < 65536 → lower 131072 (lowest base 0) ≡ signed 16 base
+pub lower-base : (base : ℕ) → base < 65536 → fromZero 131072 (lowest base 0) ≡ signed 16 base
 lower-base base h = go (decLt base 32768)
   where
-    go : Dec (base < 32768) → lower 131072 (lowest base 0) ≡ signed 16 base
+    go : Dec (base < 32768) → fromZero 131072 (lowest base 0) ≡ signed 16 base
     go (yes l) = let e : lowest base 0 ≡ 131072 + base = omega arith in rw e (lower-low 15 base l)
     go (no l) =
         let e : lowest base 0 ≡ 131072 + base - 2 * 2 ^ 15 = omega arith in
@@ -120,7 +120,7 @@ pub record FoundForm (tables : List (List Structure)) (table : ℕ) (bs : List �
   pub long : f .prefix ≤ length bs
 
 -- a form that was found is such a one
-pub found-form : {tables : List (List Structure)} {tab : List ℕ} → Ready tables tab → (table : ℕ) → 1 ≤ table → table ≤ 8
+pub found-form : {tables : List (List Structure)} {tab : List ℕ} → Compiled tables tab → (table : ℕ) → 1 ≤ table → table ≤ 8
     → (bs : List ℕ) (f : Form) → some f ≡ formed (matching (getD tables (table - 1) []) bs) → FoundForm tables table bs f
 unfolding formOf
 found-form {tables} ready table h g bs f found =
@@ -213,14 +213,14 @@ next-past tables table at s h =
     go (t ∷ ts) = refl
 
 -- no numbers hold no tables, so that a value is two bytes
-pub next-plain : (tables : List (List Structure)) (tab : List ℕ) → Holding tables tab → length tab ≡ 0
+pub next-plain : (tables : List (List Structure)) (tab : List ℕ) → CompiledOrNone tables tab → length tab ≡ 0
     → (table : ℕ) (bs : List ℕ) → readNext tables table bs ≡ readPlain table bs
 unfolding readNext
 next-plain tables tab (inl ready) e table bs = absurd (omega (arith, ready .room))
 next-plain tables tab (inr empty) e table bs = rw (empty .0)
 
 -- not in a table that is not there
-pub next-outside : {tables : List (List Structure)} {tab : List ℕ} → Ready tables tab → (table : ℕ) (bs : List ℕ)
+pub next-outside : {tables : List (List Structure)} {tab : List ℕ} → Compiled tables tab → (table : ℕ) (bs : List ℕ)
     → (table < 1) ⊎ (8 < table) → readNext tables table bs ≡ stuck
 unfolding tableOf matching
 next-outside {tables} ready table bs h =

@@ -4,7 +4,7 @@ use mathlib.Core.Path.{_≡_}
 use mathlib.Core.List.{List}
 use mathlib.Core.Option.{Option, none, some}
 use lib.ListN.{length, getD, drop}
-use Rattle.bits.specs.InnerRaised.{lower}
+use Rattle.bits.specs.InnerRaised.{valueZero, fromZero}
 use Rattle.bits.specs.InnerWindow.{Window}
 use Rattle.tables.specs.declared.Structure.{Structure}
 use Rattle.compiled.specs.declared.Form.{Form}
@@ -35,7 +35,7 @@ formed (some c) = some (formOf c)
 
 -- an answer, of a stream of the bits bs; the engines hold values with 131,072 added
 abbrev pub told : List ℕ → Read → Next
-told bs (Value x c) = gave (lower 131072 x) (c .table) (drop (c .at) bs)
+told bs (Value x c) = gave (fromZero valueZero x) (c .table) (drop (c .at) bs)
 told bs Stuck = stuck
 
 -- a burst ended with an answer, or reading goes on from its cursor

@@ -7,10 +7,10 @@ ghost use mathlib.Core.List.{List, []};
 ghost use Prim.Native.Nat.{ℕ, suc, _+_, _*_, _^_, _<_, _≤_};
 ghost use lib.ListN.{length, getD, drop};
 ghost use Rattle.bits.specs.Bits.{bitsIn, signed, begins};
-ghost use Rattle.bits.specs.InnerRaised.{lower};
+ghost use Rattle.bits.specs.InnerRaised.{valueZero, fromZero};
 ghost use Rattle.tables.specs.declared.Structure.{Structure};
 ghost use Rattle.tables.specs.Structures.{prefixOf, remainderOf, structureRight};
-ghost use Rattle.compiled.specs.InnerForm.{formOf, Ready, Filled, Holding, Held};
+ghost use Rattle.compiled.specs.InnerForm.{formOf, Compiled, CompiledSome, CompiledOrNone, CompiledSomeOrNone};
 ghost use Rattle.reading.specs.Reading.{readCoded, readPlain, readNext, matching, valueOf};
 ghost use Rattle.reading.specs.InnerCursor.{Seen, foundIn, formed, told, toldOf, Within, Leads, Onward, OnwardOf};
 use compiled::Form;
@@ -53,8 +53,8 @@ fn begins_with(f: Form, w: u64, left: usize) -> bool
 
 // The form of the structure of table t, counted from 0, whose prefix the window begins with: the first such from place 0 on.
 fn walk(tab: &[u32], t: usize, w: u64, left: usize) -> Found
-    requires { ⌜ Filled (now tab) × (t < 8) ⌝ }
-    ensures { λ r. ⌜ ((tables : List (List Structure)) (bs : List ℕ) → Ready tables (now (tab .entry)) → Seen bs w left
+    requires { ⌜ CompiledSome (now tab) × (t < 8) ⌝ }
+    ensures { λ r. ⌜ ((tables : List (List Structure)) (bs : List ℕ) → Compiled tables (now (tab .entry)) → Seen bs w left
         → foundIn r ≡ formed (matching (getD tables t []) bs)) ⌝ }
 {
     let n = tab[t * compiled::TABLE] as usize;
@@ -71,7 +71,7 @@ fn walk(tab: &[u32], t: usize, w: u64, left: usize) -> Found
 
 // The window begins with a form's prefix, and that is p bits long. Since p is known before the form is, the next code's place does not
 // wait for it.
-fn points(f: Form, p: usize, w: u64, left: usize) -> bool
+fn fits_guess(f: Form, p: usize, w: u64, left: usize) -> bool
     requires { ⌜ (1 ≤ f .prefix) × (f .prefix ≤ 32) ⌝ }
     ensures { λ r. ⌜ ((c : Structure) (bs : List ℕ) → formOf c ≡ f → Seen bs w left → r ≡ true → begins (prefixOf c) bs ≡ true) ⌝ }
 {
@@ -84,8 +84,8 @@ fn points(f: Form, p: usize, w: u64, left: usize) -> bool
 // The form that `walk` finds, most often at once: in a right table no other structure matches if the one that the first bits point to
 // does.
 fn find(tab: &[u32], t: usize, w: u64, left: usize) -> Found
-    requires { ⌜ Filled (now tab) × (t < 8) ⌝ }
-    ensures { λ r. ⌜ ((tables : List (List Structure)) (bs : List ℕ) → Ready tables (now (tab .entry)) → Seen bs w left
+    requires { ⌜ CompiledSome (now tab) × (t < 8) ⌝ }
+    ensures { λ r. ⌜ ((tables : List (List Structure)) (bs : List ℕ) → Compiled tables (now (tab .entry)) → Seen bs w left
         → foundIn r ≡ formed (matching (getD tables t []) bs)) ⌝ }
 {
     let guess = compiled::guess(tab, t, w);
@@ -93,7 +93,7 @@ fn find(tab: &[u32], t: usize, w: u64, left: usize) -> Found
     let k = guess % 64;
     if k < tab[t * compiled::TABLE] as usize {
         let guessed = compiled::form_at(tab, t, k);
-        if points(guessed, p, w, left) {
+        if fits_guess(guessed, p, w, left) {
             return Found::At(guessed);
         }
     }
@@ -103,7 +103,7 @@ fn find(tab: &[u32], t: usize, w: u64, left: usize) -> Found
 // A number in two's complement of one bit more than `half` has noughts, 131,072 added.
 fn raised(n: usize, half: usize) -> usize
     requires { ⌜ (1 ≤ half) × (half ≤ 32768) × (n < 2 * half) ⌝ }
-    ensures { λ r. ⌜ ((w : ℕ) → half ≡ 2 ^ w → lower 131072 r ≡ signed (suc w) n) × (r < 262144) ⌝ }
+    ensures { λ r. ⌜ ((w : ℕ) → half ≡ 2 ^ w → fromZero valueZero r ≡ signed (suc w) n) × (r < 262144) ⌝ }
 {
     if n < half {
         return bits::VALUE_ZERO + n;
@@ -148,8 +148,8 @@ impl Cursor {
 
     // A code is matched in the current table: a value ends the step, a switch is followed.
     fn burst(self, s: &[u8], tab: &[u32], depth: usize) -> Burst
-        requires { ⌜ Filled (now tab) × (length (now s) ≤ 1048576) × Within (length (now s) * 8) self ⌝ }
-        ensures told { λ r. ⌜ ((tables : List (List Structure)) → Ready tables (now (tab .entry))
+        requires { ⌜ CompiledSome (now tab) × (length (now s) ≤ 1048576) × Within (length (now s) * 8) self ⌝ }
+        ensures told { λ r. ⌜ ((tables : List (List Structure)) → Compiled tables (now (tab .entry))
             → toldOf tables (bitsIn (now (s .entry))) r ≡ readCoded tables (self .table) (drop (self .at) (bitsIn (now (s .entry))))) ⌝ }
         ensures onward { λ r. ⌜ OnwardOf (self .at) (length (now (s .entry)) * 8) r ⌝ }
     {
@@ -170,8 +170,8 @@ impl Cursor {
 
     // A switch gives no value: reading carries on in the table that it leads to, or hands back the cursor where the depth is used up.
     fn follow(self, s: &[u8], tab: &[u32], depth: usize, f: Form) -> Burst
-        requires { ⌜ Filled (now tab) × (length (now s) ≤ 1048576) × Within (length (now s) * 8) self × Leads (self .at) (length (now s) * 8) f ⌝ }
-        ensures told { λ r. ⌜ ((tables : List (List Structure)) → Ready tables (now (tab .entry))
+        requires { ⌜ CompiledSome (now tab) × (length (now s) ≤ 1048576) × Within (length (now s) * 8) self × Leads (self .at) (length (now s) * 8) f ⌝ }
+        ensures told { λ r. ⌜ ((tables : List (List Structure)) → Compiled tables (now (tab .entry))
             → toldOf tables (bitsIn (now (s .entry))) r ≡ readCoded tables (f .to) (drop (self .at + f .prefix) (bitsIn (now (s .entry))))) ⌝ }
         ensures onward { λ r. ⌜ OnwardOf (self .at) (length (now (s .entry)) * 8) r ⌝ }
     {
@@ -187,8 +187,8 @@ impl Cursor {
 
     // The next value, by bursts: the loop around the bounded depth.
     fn by_bursts(self, s: &[u8], tab: &[u32]) -> Read
-        requires { ⌜ Filled (now tab) × (length (now s) ≤ 1048576) × Within (length (now s) * 8) self ⌝ }
-        ensures told { λ r. ⌜ ((tables : List (List Structure)) → Ready tables (now (tab .entry))
+        requires { ⌜ CompiledSome (now tab) × (length (now s) ≤ 1048576) × Within (length (now s) * 8) self ⌝ }
+        ensures told { λ r. ⌜ ((tables : List (List Structure)) → Compiled tables (now (tab .entry))
             → told (bitsIn (now (s .entry))) r ≡ readCoded tables (self .table) (drop (self .at) (bitsIn (now (s .entry))))) ⌝ }
         ensures onward { λ r. ⌜ Onward (self .at) (length (now (s .entry)) * 8) r ⌝ }
     {
@@ -208,8 +208,8 @@ impl Cursor {
     // The next value of a stream that is coded by tables. Most often it is the first code's: that is tried here, so that the functions
     // that call each other run only where it is a switch's.
     fn coded(self, s: &[u8], tab: &[u32]) -> Read
-        requires { ⌜ Filled (now tab) × (length (now s) ≤ 1048576) × Within (length (now s) * 8) self ⌝ }
-        ensures told { λ r. ⌜ ((tables : List (List Structure)) → Ready tables (now (tab .entry))
+        requires { ⌜ CompiledSome (now tab) × (length (now s) ≤ 1048576) × Within (length (now s) * 8) self ⌝ }
+        ensures told { λ r. ⌜ ((tables : List (List Structure)) → Compiled tables (now (tab .entry))
             → told (bitsIn (now (s .entry))) r ≡ readCoded tables (self .table) (drop (self .at) (bitsIn (now (s .entry))))) ⌝ }
         ensures onward { λ r. ⌜ Onward (self .at) (length (now (s .entry)) * 8) r ⌝ }
     {
@@ -249,8 +249,8 @@ impl Cursor {
 
     // The next value of a stream: by the tables held, or, where none are (no Section 2), in two signed bytes.
     pub fn value(self, s: &[u8], tab: &[u32]) -> Read
-        requires { ⌜ Held (now tab) × (length (now s) ≤ 1048576) ⌝ }
-        ensures told { λ r. ⌜ ((tables : List (List Structure)) → Holding tables (now (tab .entry))
+        requires { ⌜ CompiledSomeOrNone (now tab) × (length (now s) ≤ 1048576) ⌝ }
+        ensures told { λ r. ⌜ ((tables : List (List Structure)) → CompiledOrNone tables (now (tab .entry))
             → told (bitsIn (now (s .entry))) r ≡ readNext tables (self .table) (drop (self .at) (bitsIn (now (s .entry))))) ⌝ }
         ensures onward { λ r. ⌜ Onward (self .at) (length (now (s .entry)) * 8) r ⌝ }
     {

@@ -5,15 +5,16 @@ use mathlib.Core.Bool.{Bool, not, _&&_, _||_, cond}
 use mathlib.Core.List.{List}
 use lib.Dec.{leb, ltb, eqb}
 use lib.ListN.{length}
+use Rattle.wire.specs.Bounds.{fewestBytes, mostBytes, fewestPointers}
 use Rattle.wire.specs.Numbers.{byteAt, numberAt, part}
 use Rattle.wire.specs.Check.{crcOf}
 use Rattle.wire.specs.RuleWords.{allIn}
 use Rattle.header.specs.Header.{section1Right}
-use Rattle.pointers.specs.Pointers.{section0Length, dataAt, fewestPointers, countOf, idOf, lengthOf, indexOf, present, startOf, endOf, sectionOf}
+use Rattle.pointers.specs.Pointers.{section0Length, dataAt, countOf, idOf, lengthOf, indexOf, present, startOf, endOf, sectionOf}
 
 -- 1: there are 142 to 1,048,576 bytes, as many as the size field says
 unfoldable pub lengthRight : List ℕ → Bool
-lengthRight r = leb 142 (length r) && (leb (length r) 1048576 && eqb (numberAt 4 r 2) (length r))
+lengthRight r = leb fewestBytes (length r) && (leb (length r) mostBytes && eqb (numberAt 4 r 2) (length r))
 
 -- the first two bytes of a part hold the check of the rest of it
 unfoldable pub holdsCheck : List ℕ → ℕ → ℕ → Bool

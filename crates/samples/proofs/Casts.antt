@@ -9,7 +9,7 @@ use lib.IntN.{ℤ, pos, negsuc, _+ℤ_, _-ℤ_}
 use mir.Syntax.{w16, w32}
 use mir.Val.{SFits, toZ, ofZ}
 use mir.ValLaws.{toZ-ofZ, toZ-pos}
-use Rattle.bits.specs.InnerRaised.{lower}
+use Rattle.bits.specs.InnerRaised.{fromZero}
 
 -- 16 bits fit 32
 pub wider : (z : ℤ) → SFits w16 z → SFits w32 z
@@ -17,8 +17,8 @@ wider (pos n) f = record { sfits = omega (arith, f .sfits) }
 wider (negsuc n) f = record { sfits = omega (arith, f .sfits) }
 
 -- a number below 65,536 holds a sample
-pub lower-fits : (x : ℕ) → x < 65536 → SFits w16 (lower 32768 x)
-unfolding lower
+pub lower-fits : (x : ℕ) → x < 65536 → SFits w16 (fromZero 32768 x)
+unfolding fromZero
 lower-fits x h = go (ltb x 32768) refl
   where
     go : (t : Bool) → ltb x 32768 ≡ t → SFits w16 (cond t (negsuc (32768 - suc x)) (pos (x - 32768)))
@@ -27,22 +27,22 @@ lower-fits x h = go (ltb x 32768) refl
 
 -- so the cast, the difference and the cast back come to it
 module _ (x : ℕ) (h : x < 65536) where
-  pub low-sum : toZ w32 x -ℤ pos 32768 ≡ lower 32768 x
-  unfolding lower
+  pub low-sum : toZ w32 x -ℤ pos 32768 ≡ fromZero 32768 x
+  unfolding fromZero
   low-sum = simp (toZ-pos w32 x (omega arith))
 
-  pub low-wide : toZ w32 (ofZ w32 (toZ w32 x -ℤ pos 32768)) ≡ lower 32768 x
-  low-wide = ap (λ (z : ℤ). toZ w32 (ofZ w32 z)) low-sum ∙ toZ-ofZ w32 (lower 32768 x) (wider (lower 32768 x) (lower-fits x h))
+  pub low-wide : toZ w32 (ofZ w32 (toZ w32 x -ℤ pos 32768)) ≡ fromZero 32768 x
+  low-wide = ap (λ (z : ℤ). toZ w32 (ofZ w32 z)) low-sum ∙ toZ-ofZ w32 (fromZero 32768 x) (wider (fromZero 32768 x) (lower-fits x h))
 
 -- a sample and the number r that holds it
 pub record Raised (z : ℤ) (r : ℕ) : Type 0 where
   pub sum : z +ℤ pos 32768 ≡ pos r
-  pub back : lower 32768 r ≡ z
+  pub back : fromZero 32768 r ≡ z
   pub small : r < 65536
 
 -- every sample is held
 pub raise : (z : ℤ) → SFits w16 z → (r : ℕ) × Raised z r
-unfolding lower
+unfolding fromZero
 raise (pos n) f =
     let e : n + 32768 - 32768 ≡ n = omega arith in
     (n + 32768, record { sum = refl; back = simp (le-ltb (n + 32768) 32768 (omega arith), e); small = omega (arith, f .sfits) })

@@ -9,7 +9,7 @@ use borrow.Author.Tests.{ltb-true, ltb-false, leb-true, leb-false, lt-ltb, le-lt
 use lib.Dec.{ltb, leb}
 use lib.IntN.{ℤ, pos, negsuc, _+ℤ_, _-ℤ_, negℤ, +ℤ-assoc, +ℤ-comm, +ℤ-negℤ-cancel, -ℤ-+ℤ-cancel}
 use lib.ListN.{length, getD}
-use Rattle.bits.specs.InnerRaised.{lower}
+use Rattle.bits.specs.InnerRaised.{fromZero}
 use Rattle.samples.specs.Differences.{storedOf, sampleOf, storedFrom, differences}
 use Rattle.samples.specs.Trace.{Trace, rebuilt, fault, fits16, behind}
 use Rattle.samples.specs.InnerTrace.{before}
@@ -25,8 +25,8 @@ before-none (rebuilt ys) = refl
 before-none (fault n) = refl
 
 -- where a whole number held as y fits 16 bits
-pub fits-lower : (much y : ℕ) → 32768 ≤ much → fits16 (lower much y) ≡ leb (much - 32768) y && ltb y (much + 32768)
-unfolding lower fits16
+pub fits-lower : (much y : ℕ) → 32768 ≤ much → fits16 (fromZero much y) ≡ leb (much - 32768) y && ltb y (much + 32768)
+unfolding fromZero fits16
 fits-lower much y h = go (ltb y much) refl
   where
     under : (t : Bool) → leb (much - 32768) y ≡ t → y < much → ltb (much - suc y) 32768 ≡ t

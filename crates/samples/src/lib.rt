@@ -5,20 +5,20 @@ ghost use mathlib.Core.Bool.{true, false};
 ghost use Prim.Native.Nat.{_-_, min, _<_, _≤_};
 ghost use lib.IntN.{pos};
 ghost use lib.ListN.{length, getD};
-ghost use Rattle.bits.specs.InnerRaised.{lower};
+ghost use Rattle.bits.specs.InnerRaised.{sampleZero, valueZero, fromZero};
 ghost use Rattle.samples.specs.Differences.{storedOf, sampleOf, differences};
 
 // A sample of which x is 32,768 more.
 pub fn lowered(x: usize) -> i16
     requires { ⌜ x < 65536 ⌝ }
-    ensures { λ r. ⌜ r ≡ lower 32768 x ⌝ }
+    ensures { λ r. ⌜ r ≡ fromZero sampleZero x ⌝ }
 {
     (x as i32 - 32768) as i16
 }
 
 // A sample, 32,768 added.
 pub fn raised(x: i16) -> usize
-    ensures { λ r. ⌜ (lower 32768 r ≡ x) × (r < 65536) ⌝ }
+    ensures { λ r. ⌜ (fromZero sampleZero r ≡ x) × (r < 65536) ⌝ }
 {
     (x as i32 + 32768) as usize
 }
@@ -39,7 +39,7 @@ fn plain(order: usize, place: usize) -> bool
 // The sample that a stored value stands for, 229,376 added.
 pub fn sample_of(order: usize, place: usize, v: usize, last: usize, other: usize) -> usize
     requires { ⌜ (v < 262144) × (last < 65536) × (other < 65536) ⌝ }
-    ensures { λ r. ⌜ (lower 229376 r ≡ sampleOf order place (lower 131072 v) (lower 32768 last) (lower 32768 other)) × (r < 458752) ⌝ }
+    ensures { λ r. ⌜ (fromZero 229376 r ≡ sampleOf order place (fromZero valueZero v) (fromZero sampleZero last) (fromZero sampleZero other)) × (r < 458752) ⌝ }
 {
     if plain(order, place) {
         return v + 98304;
@@ -53,7 +53,7 @@ pub fn sample_of(order: usize, place: usize, v: usize, last: usize, other: usize
 // The value stored for a sample x, 131,072 added.
 fn stored_of(order: usize, place: usize, x: usize, last: usize, other: usize) -> usize
     requires { ⌜ (x < 65536) × (last < 65536) × (other < 65536) ⌝ }
-    ensures { λ r. ⌜ (lower 131072 r ≡ storedOf order place (lower 32768 x) (lower 32768 last) (lower 32768 other)) × (r < 262144) ⌝ }
+    ensures { λ r. ⌜ (fromZero valueZero r ≡ storedOf order place (fromZero sampleZero x) (fromZero sampleZero last) (fromZero sampleZero other)) × (r < 262144) ⌝ }
 {
     if plain(order, place) {
         return x + 98304;
@@ -67,7 +67,7 @@ fn stored_of(order: usize, place: usize, x: usize, last: usize, other: usize) ->
 // The sample so many places before the i-th, raised; where there is none, any.
 fn earlier(xs: &[i16], i: usize, back: usize) -> usize
     requires { ⌜ i < length (now xs) ⌝ }
-    ensures { λ r. ⌜ (r < 65536) × (back ≤ i → lower 32768 r ≡ getD (now (xs .entry)) (i - back) (pos 0)) ⌝ }
+    ensures { λ r. ⌜ (r < 65536) × (back ≤ i → fromZero sampleZero r ≡ getD (now (xs .entry)) (i - back) (pos 0)) ⌝ }
 {
     if i < back {
         return 0;
@@ -78,7 +78,7 @@ fn earlier(xs: &[i16], i: usize, back: usize) -> usize
 // The value stored at place i, 131,072 added.
 pub fn value_at(xs: &[i16], order: usize, i: usize) -> usize
     requires { ⌜ i < length (now xs) ⌝ }
-    ensures { λ r. ⌜ (lower 131072 r ≡ getD (differences order (now (xs .entry))) i (pos 0)) × (r < 262144) ⌝ }
+    ensures { λ r. ⌜ (fromZero valueZero r ≡ getD (differences order (now (xs .entry))) i (pos 0)) × (r < 262144) ⌝ }
 {
     let x = earlier(xs, i, 0);
     let last = earlier(xs, i, 1);

@@ -10,13 +10,13 @@ use borrow.Author.Tests.{eq-eqb, ne-eqb}
 use lib.IntN.{ℤ}
 use lib.ListN.{length}
 use lib.Pow.{shl-lt}
-use Rattle.bits.specs.InnerRaised.{lower}
+use Rattle.bits.specs.InnerRaised.{fromZero}
 use Rattle.tables.specs.declared.Structure.{Structure}
 use Rattle.tables.specs.Structures.{structureRight}
 use Rattle.tables.specs.Section2.{tableOf}
 use Rattle.tables.proofs.Laws.{fine}
 use Rattle.compiled.specs.declared.Form.{Form}
-use Rattle.compiled.specs.InnerForm.{formOf, Ready}
+use Rattle.compiled.specs.InnerForm.{formOf, Compiled}
 use Rattle.compiled.proofs.Laws.{FineForm, held-count, held-form, held-right, held-fine}
 use Rattle.reading.proofs.Laws.{table-at}
 use Rattle.paths.specs.InnerPaths.{leads, join, NotAfter}
@@ -25,7 +25,7 @@ use Rattle.shortest.proofs.Laws.{leads-switch}
 use Rattle.shortest.proofs.Forms.{form-leads, form-length, rank-not-after}
 use Rattle.search.specs.InnerSearch.{cap, countOf, formIn, bitsOf, rankIn, Place, at, leapOf}
 
-module _ {tables : List (List Structure)} {tab : List ℕ} (ready : Ready tables tab) (t : ℕ) (h : (1 ≤ t) × (t ≤ 8)) where
+module _ {tables : List (List Structure)} {tab : List ℕ} (ready : Compiled tables tab) (t : ℕ) (h : (1 ≤ t) × (t ≤ 8)) where
   pub counted : countOf tab t ≡ length (tableOf tables t)
   counted = ready .says (t - 1) (omega arith) .count ∙ ap length (sym (table-at tables t (h .0)))
 
@@ -45,12 +45,12 @@ module _ {tables : List (List Structure)} {tab : List ℕ} (ready : Ready tables
     pub fine-there : FineForm (formIn tab t k)
     fine-there = held-fine ready (t - 1) (omega arith) k hk
 
-    pub bits-there : (x : ℕ) → length (wordOf (structureOf tables t k) (lower 131072 x)) ≡ bitsOf tab t k
+    pub bits-there : (x : ℕ) → length (wordOf (structureOf tables t k) (fromZero 131072 x)) ≡ bitsOf tab t k
     bits-there x = form-length 8 (structureOf tables t k) right-there small-there (formIn tab t k) form-there x
 
     -- a switch, both ways
     pub leads-there : (x : ℕ) → (formIn tab t k .to ≡ 0 → ⊥)
-        → kindOf (structureOf tables t k) (lower 131072 x) ≡ leads (formIn tab t k .to)
+        → kindOf (structureOf tables t k) (fromZero 131072 x) ≡ leads (formIn tab t k .to)
     leads-there x = form-leads 8 (structureOf tables t k) right-there small-there (formIn tab t k) form-there x
 
     to-there : (v : ℤ) (u : ℕ) → kindOf (structureOf tables t k) v ≡ leads u → (formIn tab t k .to ≡ u) × (1 ≤ u)
@@ -62,10 +62,10 @@ module _ {tables : List (List Structure)} {tab : List ℕ} (ready : Ready tables
         (sym (ap (λ (f : Form). f .to) form-there) ∙ to, omega (arith, fine 8 c right-there .switch (s .0), s .1))
 
     -- what it costs as a switch
-    pub leap-cost : (costs : List ℕ) (x u : ℕ) → kindOf (structureOf tables t k) (lower 131072 x) ≡ leads u
-        → leapOf tab costs t k ≡ join cap (length (wordOf (structureOf tables t k) (lower 131072 x))) (at costs u)
+    pub leap-cost : (costs : List ℕ) (x u : ℕ) → kindOf (structureOf tables t k) (fromZero 131072 x) ≡ leads u
+        → leapOf tab costs t k ≡ join cap (length (wordOf (structureOf tables t k) (fromZero 131072 x))) (at costs u)
     leap-cost costs x u e =
-        let s = to-there (lower 131072 x) u e in
+        let s = to-there (fromZero 131072 x) u e in
         rw (ne-eqb (formIn tab t k .to) 0 (λ z. absurd (omega (arith, s .0, s .1))), s .0, bits-there x)
 
   module _ (j k : ℕ) (hj : j < countOf tab t) (hk : k < countOf tab t) where
@@ -90,7 +90,7 @@ module _ (tab costs : List ℕ) (t k : ℕ) (f : Form) (e : f ≡ formIn tab t k
   leap-some n = rw (← e) (rw (ne-eqb (f .to) 0 n) refl)
 
 -- a structure's number, or 64 for none
-pub place-most : {tables : List (List Structure)} {tab : List ℕ} → Ready tables tab → (t k : ℕ) → (1 ≤ t) × (t ≤ 8) → Place tab t k
+pub place-most : {tables : List (List Structure)} {tab : List ℕ} → Compiled tables tab → (t k : ℕ) → (1 ≤ t) × (t ≤ 8) → Place tab t k
     → k ≤ 64
 place-most ready t k h p = ⊎-elim (λ e. omega arith) (λ l. omega (arith, count-most ready t h)) p
 

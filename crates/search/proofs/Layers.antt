@@ -10,13 +10,13 @@ use borrow.Rule.Slice.PartMut.{putMid, postOf, drop-put}
 use lib.IntN.{ℤ, pos}
 use lib.ListN.{length, getD, set, take, drop, replicate, getD-replicate, List·getD-append}
 use lib.Seq.{getD-set-same, getD-set-other, getD-append-add, getD-drop, length-take-le, drop-cons, drop-length}
-use Rattle.bits.specs.InnerRaised.{lower}
+use Rattle.bits.specs.InnerRaised.{fromZero}
 use Rattle.tables.specs.declared.Structure.{Structure}
-use Rattle.compiled.specs.InnerForm.{Ready}
+use Rattle.compiled.specs.InnerForm.{Compiled}
 use Rattle.paths.specs.InnerPaths.{join, Exact}
 use Rattle.paths.proofs.Optimal.{exact-nil}
 use Rattle.shortest.specs.InnerRule.{rule}
-use Rattle.search.specs.InnerSearch.{cap, Shows, Trail, bitsOf, NoSwitch, at, IsNearest, Valued, ValuedTo, Layer, Nine}
+use Rattle.search.specs.InnerSearch.{cap, Shows, Trail, bitsOf, NoSwitch, at, IsNearest, Valued, ValuedTo, Layer, NineCosts}
 use Rattle.search.proofs.Served.{valued}
 use Rattle.search.proofs.OneLayer.{layer-holds, settled-first, picked-first}
 
@@ -89,7 +89,7 @@ module _ (tables : List (List Structure)) (vs : List ℤ) (work after ys costs :
 abbrev pub alone : ℕ → List ℕ
 alone c = 0 ∷ c ∷ replicate 7 0
 
-alone-nine : (c : ℕ) → c ≤ suc cap → Nine (alone c)
+alone-nine : (c : ℕ) → c ≤ suc cap → NineCosts (alone c)
 alone-nine c h = (refl, most)
   where
     most : (t : ℕ) → t < 9 → at (alone c) t ≤ suc cap
@@ -98,7 +98,7 @@ alone-nine c h = (refl, most)
     most (suc (suc t)) l = omega (arith, getD-replicate {A = ℕ} 7 t 0 0 (omega arith))
 
 -- the value's structure is the first step
-module _ {tables : List (List Structure)} {tab : List ℕ} (ready : Ready tables tab) (all : length tables ≡ 1) (none : NoSwitch tab 1)
+module _ {tables : List (List Structure)} {tab : List ℕ} (ready : Compiled tables tab) (all : length tables ≡ 1) (none : NoSwitch tab 1)
     (x k a c : ℕ) (vs : List ℤ) (E : Exact (rule tables) cap vs (at (alone a))) (near : IsNearest tab 1 x k)
     (no : k ≡ 64 → c ≡ suc cap) (some : k < 64 → c ≡ join cap (bitsOf tab 1 k) a) (most : c ≤ suc cap) where
   its-value : Valued tables (alone a) x 1 k c
@@ -107,7 +107,7 @@ module _ {tables : List (List Structure)} {tab : List ℕ} (ready : Ready tables
   valued-one : ValuedTo tables (alone a) x (k ∷ []) (alone c) 2
   valued-one t g h = let e : t ≡ 1 = omega arith in rw e its-value
 
-  pub one-layer : Layer tables (lower 131072 x) vs (alone c) (k ∷ [])
+  pub one-layer : Layer tables (fromZero 131072 x) vs (alone c) (k ∷ [])
   one-layer =
       layer-holds ready 1 x vs (alone a) (k ∷ []) (alone c) (alone c) (k ∷ []) all E valued-one
       (settled-first tab 1 (alone c) (omega arith) (alone-nine c most) none)

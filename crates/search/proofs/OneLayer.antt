@@ -9,27 +9,27 @@ use borrow.Author.Tests.{eqb-true, eq-eqb, le-leb}
 use lib.Dec.{eqb}
 use lib.IntN.{ℤ}
 use lib.ListN.{length, getD}
-use Rattle.bits.specs.InnerRaised.{lower}
+use Rattle.bits.specs.InnerRaised.{fromZero}
 use Rattle.tables.specs.declared.Structure.{Structure}
 use Rattle.tables.specs.Section2.{tableOf}
-use Rattle.compiled.specs.InnerForm.{Ready}
+use Rattle.compiled.specs.InnerForm.{Compiled}
 use Rattle.paths.specs.InnerPaths.{Kind, dead, gives, leads, There, Sound, Met, join, costBehind, cost, Closed, Exact, Chosen, NoValue, Nearest}
 use Rattle.paths.proofs.Optimal.{join-met, join-sum, exact, hop, some-tight}
 use Rattle.paths.proofs.Layer.{cost-value, cost-switch, met-value, met-none, SwitchesClosed, closed-none, closed-nearest, BeforeSwitches, chosen-none, chosen-nearest}
 use Rattle.shortest.specs.InnerRule.{wordOf, structureOf, rule}
 use Rattle.shortest.proofs.Bridge.{sound}
-use Rattle.search.specs.InnerSearch.{cap, countOf, formIn, NoSwitch, Place, at, leapOf, Valued, ValuedTo, AllMet, Settled, Picked, PickedFrom, Layer, Nine}
+use Rattle.search.specs.InnerSearch.{cap, countOf, formIn, NoSwitch, Place, at, leapOf, Valued, ValuedTo, AllMet, Settled, Picked, PickedFrom, Layer, NineCosts}
 use Rattle.search.proofs.Laws.{counted, count-most, bits-there, leads-there, leap-cost, leap-switch, not-after}
 
 -- ---- one layer: the value x, 131,072 added, before the values vs
 
-module _ {tables : List (List Structure)} {tab : List ℕ} (ready : Ready tables tab) (n x : ℕ) (vs : List ℤ)
+module _ {tables : List (List Structure)} {tab : List ℕ} (ready : Compiled tables tab) (n x : ℕ) (vs : List ℤ)
     (next near first costs marks : List ℕ) (all : length tables ≡ n) (E : Exact (rule tables) cap vs (at next))
     (vals : ValuedTo tables next x near first (n + 1))
     (S : Settled tab n first costs)
     (P : (t : ℕ) → 1 ≤ t → t ≤ n → PickedFrom tab first costs t (getD near (t - 1) 0) (getD marks (t - 1) 0)) where
   abbrev v : ℤ
-  v = lower 131072 x
+  v = fromZero 131072 x
 
   W : Sound (rule tables)
   W = sound tables (ready .right) (ready .some)
@@ -156,7 +156,7 @@ module _ {tables : List (List Structure)} {tab : List ℕ} (ready : Ready tables
         switches)
         (its t ht)
 
-  pub layer-holds : Layer tables (lower 131072 x) vs costs marks
+  pub layer-holds : Layer tables (fromZero 131072 x) vs costs marks
   layer-holds = record {
     exact = whole;
     shows = λ t ht s B l.
@@ -172,11 +172,11 @@ module _ {tables : List (List Structure)} {tab : List ℕ} (ready : Ready tables
 -- ---- without switches
 
 -- the value's structures are structures of their tables
-pub place-valued : {tables : List (List Structure)} {tab : List ℕ} → Ready tables tab → (next : List ℕ) (x t k c : ℕ) → (1 ≤ t) × (t ≤ 8)
+pub place-valued : {tables : List (List Structure)} {tab : List ℕ} → Compiled tables tab → (next : List ℕ) (x t k c : ℕ) → (1 ≤ t) × (t ≤ 8)
     → Valued tables next x t k c → Place tab t k
 place-valued ready next x t k c h w = ⊎-elim (λ z. inl (z .0)) (λ z. inr (omega (arith, z .0 .inside, counted ready t h))) w
 
-module _ (tab : List ℕ) (n : ℕ) (first : List ℕ) (few : n ≤ 8) (nine : Nine first)
+module _ (tab : List ℕ) (n : ℕ) (first : List ℕ) (few : n ≤ 8) (nine : NineCosts first)
     (none : NoSwitch tab n) where
   no-leap : (t k : ℕ) → 1 ≤ t → t ≤ n → k < countOf tab t → leapOf tab first t k ≡ suc cap
   no-leap t k a b h = rw (eq-eqb (formIn tab t k .to) 0 (none t k a b h))

@@ -8,26 +8,26 @@ use native.Mathlib.Omega.{arith}
 use lib.IntN.{ℤ}
 use lib.ListN.{length, getD, set, replicate, length-set, length-replicate, getD-replicate}
 use lib.Seq.{getD-set-same, getD-set-other}
-use Rattle.bits.specs.InnerRaised.{lower}
+use Rattle.bits.specs.InnerRaised.{fromZero}
 use Rattle.tables.specs.declared.Structure.{Structure}
-use Rattle.compiled.specs.InnerForm.{Ready}
+use Rattle.compiled.specs.InnerForm.{Compiled}
 use Rattle.paths.specs.InnerPaths.{gives, join, Nearest}
 use Rattle.paths.proofs.Layer.{none-more, nearest-first, nearest-more, nearest-keep, nearest-take}
 use Rattle.shortest.specs.InnerRule.{kindOf, wordOf, structureOf, rule}
 use Rattle.search.specs.InnerSearch.{cap, countOf, bitsOf, at, Served, IsNearest, Known, Valued, ValuedTo, Smaller}
 use Rattle.search.proofs.Laws.{counted, count-most, bits-there, not-after}
 
-module _ {tables : List (List Structure)} {tab : List ℕ} (ready : Ready tables tab) (t : ℕ) (h : (1 ≤ t) × (t ≤ 8)) (k best x : ℕ)
-    (hk : k < countOf tab t) (e : kindOf (structureOf tables t k) (lower 131072 x) ≡ gives) (S : Served tables x t k best) where
+module _ {tables : List (List Structure)} {tab : List ℕ} (ready : Compiled tables tab) (t : ℕ) (h : (1 ≤ t) × (t ≤ 8)) (k best x : ℕ)
+    (hk : k < countOf tab t) (e : kindOf (structureOf tables t k) (fromZero 131072 x) ≡ gives) (S : Served tables x t k best) where
   -- the first
   pub served-first : best ≡ 64 → Served tables x t (k + 1) k
   served-first n =
-      inr (⊎-elim (λ w. nearest-first (rule tables) (lower 131072 x) t k (w .1) e)
+      inr (⊎-elim (λ w. nearest-first (rule tables) (fromZero 131072 x) t k (w .1) e)
       (λ N. absurd (omega (arith, N .inside, count-most ready t h)))
       S)
 
   module _ (n : best ≡ 64 → ⊥) (hb : best < countOf tab t) where
-    near : Nearest (rule tables) (lower 131072 x) t k best
+    near : Nearest (rule tables) (fromZero 131072 x) t k best
     near = ⊎-elim (λ w. absurd (n (w .0))) (λ N. N) S
 
     -- a shorter code
@@ -35,21 +35,21 @@ module _ {tables : List (List Structure)} {tab : List ℕ} (ready : Ready tables
     served-shorter l =
         let wk = bits-there ready t h k hk x in
         let wb = bits-there ready t h best hb x in
-        inr (nearest-take (rule tables) (lower 131072 x) t k best near e (omega arith) (λ q. absurd (omega arith)))
+        inr (nearest-take (rule tables) (fromZero 131072 x) t k best near e (omega arith) (λ q. absurd (omega arith)))
 
     -- a longer one
     pub served-longer : bitsOf tab t best < bitsOf tab t k → Served tables x t (k + 1) best
     served-longer l =
         let wk = bits-there ready t h k hk x in
         let wb = bits-there ready t h best hb x in
-        inr (nearest-keep (rule tables) (lower 131072 x) t k best near (omega arith) (λ q. absurd (omega arith)))
+        inr (nearest-keep (rule tables) (fromZero 131072 x) t k best near (omega arith) (λ q. absurd (omega arith)))
 
     -- one as long
     pub served-equal : (r : ℕ) → bitsOf tab t k ≡ bitsOf tab t best → Smaller tab t k best r → Served tables x t (k + 1) r
     served-equal r l s = ⊎-elim take keep (s .one)
       where
         v : ℤ
-        v = lower 131072 x
+        v = fromZero 131072 x
 
         same : length (wordOf (structureOf tables t k) v) ≡ length (wordOf (structureOf tables t best) v)
         same = bits-there ready t h k hk x ∙ l ∙ sym (bits-there ready t h best hb x)
@@ -66,12 +66,12 @@ module _ {tables : List (List Structure)} {tab : List ℕ} (ready : Ready tables
             (λ z. not-after ready t h best k hb hk v (rw q at (s .first)))))
 
 -- a structure that does not give the value
-pub served-skip : (tables : List (List Structure)) (x t k best : ℕ) → (kindOf (structureOf tables t k) (lower 131072 x) ≡ gives → ⊥)
+pub served-skip : (tables : List (List Structure)) (x t k best : ℕ) → (kindOf (structureOf tables t k) (fromZero 131072 x) ≡ gives → ⊥)
     → Served tables x t k best → Served tables x t (k + 1) best
 served-skip tables x t k best n s =
     ⊎-elim
-    (λ w. inl (w .0, none-more (rule tables) (lower 131072 x) t k (w .1) n))
-    (λ N. inr (nearest-more (rule tables) (lower 131072 x) t k best N n))
+    (λ w. inl (w .0, none-more (rule tables) (fromZero 131072 x) t k (w .1) n))
+    (λ N. inr (nearest-more (rule tables) (fromZero 131072 x) t k best N n))
     s
 
 -- nothing is known
@@ -102,7 +102,7 @@ known-more {tab} {known} K t x k h low high new = record {
         rw same (K .found u y a b c d (rw same at small))
 
 -- what the value's structure costs
-pub valued : {tables : List (List Structure)} {tab : List ℕ} (ready : Ready tables tab) (next : List ℕ) (x t k c : ℕ) → (1 ≤ t) × (t ≤ 8)
+pub valued : {tables : List (List Structure)} {tab : List ℕ} (ready : Compiled tables tab) (next : List ℕ) (x t k c : ℕ) → (1 ≤ t) × (t ≤ 8)
     → Served tables x t (countOf tab t) k → (k ≡ 64 → c ≡ suc cap) → (k < 64 → c ≡ join cap (bitsOf tab t k) (at next t))
     → Valued tables next x t k c
 valued {tables} {tab} ready next x t k c h s none some =

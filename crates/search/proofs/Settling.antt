@@ -10,10 +10,10 @@ use borrow.Author.Count.{below-more}
 use lib.IntN.{ℤ}
 use lib.ListN.{length, getD, set}
 use lib.Seq.{getD-set-same, getD-set-other}
-use Rattle.bits.specs.InnerRaised.{lower}
+use Rattle.bits.specs.InnerRaised.{fromZero}
 use Rattle.tables.specs.declared.Structure.{Structure}
 use Rattle.tables.specs.Section2.{tableOf}
-use Rattle.compiled.specs.InnerForm.{Ready}
+use Rattle.compiled.specs.InnerForm.{Compiled}
 use Rattle.paths.specs.InnerPaths.{There, Reads, MetBy, Met}
 use Rattle.paths.proofs.Layer.{met-switch}
 use Rattle.shortest.specs.InnerRule.{rule}
@@ -95,30 +95,30 @@ module _ (costs : List ℕ) (t r : ℕ) (ht : t < length costs) (l : r < at cost
       go (no n) = rw (getD-set-other costs t u r 0 n) (omega arith)
 
 -- streams meet the least that a switch costs
-module _ {tables : List (List Structure)} {tab : List ℕ} (ready : Ready tables tab) (costs : List ℕ) (t r x : ℕ) (vs : List ℤ)
+module _ {tables : List (List Structure)} {tab : List ℕ} (ready : Compiled tables tab) (costs : List ℕ) (t r x : ℕ) (vs : List ℤ)
     (ht : There (rule tables) t) (room : t < length costs) (L : LeastOf (leapOf tab costs t) (countOf tab t) r)
-    (met : AllMet tables (lower 131072 x) vs costs) where
+    (met : AllMet tables (fromZero 131072 x) vs costs) where
   within : (1 ≤ t) × (t ≤ 8)
   within = omega (arith, ready .most)
 
-  met-least : MetBy (rule tables) cap (lower 131072 x ∷ vs) t r
+  met-least : MetBy (rule tables) cap (fromZero 131072 x ∷ vs) t r
   met-least h = ⊎-elim (λ e. absurd (omega arith)) switch (L .hit)
     where
       switch : (w : (k : ℕ) × (k < countOf tab t) × (leapOf tab costs t k ≡ r))
-          → (s : List ℕ) × Reads (rule tables) t s (lower 131072 x ∷ vs) × (min cap (length s) ≤ r)
+          → (s : List ℕ) × Reads (rule tables) t s (fromZero 131072 x ∷ vs) × (min cap (length s) ≤ r)
       switch w =
           let k = w .0 in
           let s = leap-switch tab costs t k (omega (arith, w .2)) in
           let u = formIn tab t k .to in
           let hk : k < length (tableOf tables t) = omega (arith, w .1, counted ready t within) in
           let e = leads-there ready t within k (w .1) x (s .0) in
-          met-switch (rule tables) cap (lower 131072 x) vs t k r hk (at costs) u
-          (met u (sound tables (ready .right) (ready .some) .onto t k u (lower 131072 x) ht hk e)) e
+          met-switch (rule tables) cap (fromZero 131072 x) vs t k r hk (at costs) u
+          (met u (sound tables (ready .right) (ready .some) .onto t k u (fromZero 131072 x) ht hk e)) e
           (rw (bits-there ready t within k (w .1) x) (sym (s .1) ∙ w .2)) h
 
-  pub met-set : AllMet tables (lower 131072 x) vs (set costs t r)
+  pub met-set : AllMet tables (fromZero 131072 x) vs (set costs t r)
   met-set u hu = go (ℕ-discrete u t)
     where
-      go : Dec (u ≡ t) → Met (rule tables) cap (lower 131072 x ∷ vs) (at (set costs t r)) u
+      go : Dec (u ≡ t) → Met (rule tables) cap (fromZero 131072 x ∷ vs) (at (set costs t r)) u
       go (yes e) = rw e (rw (getD-set-same costs t r 0 room) met-least)
       go (no n) = rw (getD-set-other costs t u r 0 n) (met u hu)

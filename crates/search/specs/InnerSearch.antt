@@ -8,17 +8,17 @@ use mathlib.Core.Logic.{_⊎_}
 use lib.Dec.{eqb}
 use lib.IntN.{ℤ, pos}
 use lib.ListN.{length, getD, drop}
-use Rattle.bits.specs.InnerRaised.{lower}
+use Rattle.bits.specs.InnerRaised.{valueZero, fromZero}
 use Rattle.tables.specs.declared.Structure.{Structure}
 use Rattle.tables.specs.Section2.{tableOf}
 use Rattle.compiled.specs.declared.Form.{Form}
-use Rattle.compiled.specs.InnerForm.{formAt, Ready, Filled}
+use Rattle.compiled.specs.InnerForm.{tableNumbers, formAt, Compiled, CompiledSome}
 use Rattle.paths.specs.InnerPaths.{Codes, There, Best, Hop, join, Met, Exact, NoValue, Nearest}
 use Rattle.shortest.specs.InnerRule.{wordOf, structureOf, rule}
 
 -- the numbers say some n tables that are right
-abbrev pub FilledBy : List ℕ → ℕ → Type 0
-FilledBy tab n = (tables : List (List Structure)) × Ready tables tab × (length tables ≡ n)
+abbrev pub CompiledCount : List ℕ → ℕ → Type 0
+CompiledCount tab n = (tables : List (List Structure)) × Compiled tables tab × (length tables ≡ n)
 
 -- one more than the bits that a lead may have
 abbrev pub cap : ℕ
@@ -47,7 +47,7 @@ pub record Planned (tables : List (List Structure)) (vs : List ℤ) (work : List
 
 -- how many structures table t has, and the form of structure k
 abbrev pub countOf : List ℕ → ℕ → ℕ
-countOf tab t = getD tab ((t - 1) * 385) 0
+countOf tab t = getD tab ((t - 1) * tableNumbers) 0
 
 abbrev pub formIn : List ℕ → ℕ → ℕ → Form
 formIn tab t k = formAt tab (t - 1) k
@@ -61,7 +61,7 @@ rankIn tab t k = formIn tab t k .word * 2 ^ (32 - formIn tab t k .prefix)
 
 -- the numbers say some tables, of which t may be one
 abbrev pub Within : List ℕ → ℕ → Type 0
-Within tab t = Filled tab × (1 ≤ t) × (t ≤ 8)
+Within tab t = CompiledSome tab × (1 ≤ t) × (t ≤ 8)
 
 -- none of the n tables has a switch
 abbrev pub NoSwitch : List ℕ → ℕ → Type 0
@@ -85,11 +85,11 @@ leapOf tab costs t k =
 -- of the first m structures of table t, k gives the value x, 131,072 added, at least cost; or it is 64, and none gives it
 abbrev pub Served : List (List Structure) → ℕ → ℕ → ℕ → ℕ → Type 0
 Served tables x t m k =
-    ((k ≡ 64) × NoValue (rule tables) (lower 131072 x) t m) ⊎ Nearest (rule tables) (lower 131072 x) t m k
+    ((k ≡ 64) × NoValue (rule tables) (fromZero valueZero x) t m) ⊎ Nearest (rule tables) (fromZero valueZero x) t m k
 
 -- structure k of table t, or 64 for none, is the value's
 abbrev pub IsNearest : List ℕ → ℕ → ℕ → ℕ → Type 0
-IsNearest tab t x k = ((tables : List (List Structure)) → Ready tables tab → Served tables x t (countOf tab t) k) × Place tab t k
+IsNearest tab t x k = ((tables : List (List Structure)) → Compiled tables tab → Served tables x t (countOf tab t) k) × Place tab t k
 
 -- what is known of the values from -128 to 127: 256 places a table, each with the value's structure, or more than 64
 pub record Known (tab known : List ℕ) : Type 0 where
@@ -100,9 +100,9 @@ pub record Known (tab known : List ℕ) : Type 0 where
 -- k is the value's structure of table t, and c what it costs where the costs behind it are `next`
 abbrev pub Valued : List (List Structure) → List ℕ → ℕ → ℕ → ℕ → ℕ → Type 0
 Valued tables next x t k c =
-    ((k ≡ 64) × NoValue (rule tables) (lower 131072 x) t (length (tableOf tables t)) × (c ≡ suc cap))
-    ⊎ (Nearest (rule tables) (lower 131072 x) t (length (tableOf tables t)) k
-    × (c ≡ join cap (length (wordOf (structureOf tables t k) (lower 131072 x))) (at next t)))
+    ((k ≡ 64) × NoValue (rule tables) (fromZero valueZero x) t (length (tableOf tables t)) × (c ≡ suc cap))
+    ⊎ (Nearest (rule tables) (fromZero valueZero x) t (length (tableOf tables t)) k
+    × (c ≡ join cap (length (wordOf (structureOf tables t k) (fromZero valueZero x))) (at next t)))
 
 -- so it is for the tables before m
 abbrev pub ValuedTo : List (List Structure) → List ℕ → ℕ → List ℕ → List ℕ → ℕ → Type 0
@@ -128,8 +128,8 @@ pub record Settled (tab : List ℕ) (n : ℕ) (first costs : List ℕ) : Type 0 
   pub nine : length costs ≡ 9
   pub less : (t : ℕ) → t < 9 → at costs t ≤ at first t
   pub shut : (t : ℕ) → 1 ≤ t → t ≤ n → Shut tab costs t
-  pub met : (tables : List (List Structure)) (x : ℕ) (vs : List ℤ) → Ready tables tab → length tables ≡ n
-      → AllMet tables (lower 131072 x) vs first → AllMet tables (lower 131072 x) vs costs
+  pub met : (tables : List (List Structure)) (x : ℕ) (vs : List ℤ) → Compiled tables tab → length tables ≡ n
+      → AllMet tables (fromZero valueZero x) vs first → AllMet tables (fromZero valueZero x) vs costs
 
 -- ---- choices
 
@@ -161,5 +161,5 @@ pub record Layer (tables : List (List Structure)) (v : ℤ) (vs : List ℤ) (cos
   pub shows : (t : ℕ) → There (rule tables) t → Shows (rule tables) v vs t (getD marks (t - 1) 0)
 
 -- costs in nine places, none above that which says that there is no stream
-abbrev pub Nine : List ℕ → Type 0
-Nine costs = (length costs ≡ 9) × ((t : ℕ) → t < 9 → at costs t ≤ suc cap)
+abbrev pub NineCosts : List ℕ → Type 0
+NineCosts costs = (length costs ≡ 9) × ((t : ℕ) → t < 9 → at costs t ≤ suc cap)

@@ -7,19 +7,21 @@ ghost use mathlib.Core.Logic.{_⊎_};
 ghost use Prim.Native.Nat.{ℕ, suc, _+_, _-_, _*_, _<_, _≤_};
 ghost use lib.IntN.{ℤ};
 ghost use lib.ListN.{length, getD};
-ghost use Rattle.bits.specs.InnerRaised.{lower};
+ghost use Rattle.bits.specs.InnerRaised.{valueZero, fromZero};
 ghost use Rattle.samples.specs.Differences.{differences};
 ghost use Rattle.tables.specs.declared.Structure.{Structure};
 ghost use Rattle.tables.specs.Structures.{structureRight};
-ghost use Rattle.compiled.specs.InnerForm.{formOf, Ready};
+ghost use Rattle.compiled.specs.InnerForm.{formOf, Compiled};
 ghost use Rattle.paths.specs.InnerPaths.{gives, join as joinOf, Exact};
 ghost use Rattle.shortest.specs.InnerRule.{kindOf, structureOf, rule};
-ghost use Rattle.search.specs.InnerSearch.{FilledBy, cap, Planned, countOf, formIn, bitsOf, rankIn, Within, NoSwitch, Place, at, leapOf, Served, IsNearest, Known, ValuedTo, LeastOf, Settled, Smaller, Picked, PickedFrom, Layer, Nine};
+ghost use Rattle.search.specs.InnerSearch.{CompiledCount, cap, Planned, countOf, formIn, bitsOf, rankIn, Within, NoSwitch, Place, at, leapOf, Served, IsNearest, Known, ValuedTo, LeastOf, Settled, Smaller, Picked, PickedFrom, Layer, NineCosts};
 use compiled::Form;
 
 // The bits of 65,535 bytes, the most that a stream may have; one more, where costs stop; and a number that says that there is no stream.
 pub const MOST_BITS: usize = 524280;
+
 pub const TOO_LONG: usize = 524281;
+
 pub const NO_STREAM: usize = 524282;
 
 // A code of so many bits, where what is left costs a.
@@ -80,7 +82,7 @@ fn smaller(tab: &[u32], t: usize, k: usize, best: usize) -> usize
 // A structure's form has a code for the value, 131,072 added.
 fn serves(f: Form, v: usize) -> bool
     ensures { λ r. ⌜ ((n : ℕ) (c : Structure) → structureRight n c ≡ true → c .base < 65536 → formOf c ≡ f
-        → (r ≡ true → kindOf c (lower 131072 v) ≡ gives) × (r ≡ false → kindOf c (lower 131072 v) ≡ gives → ⊥)) ⌝ }
+        → (r ≡ true → kindOf c (fromZero valueZero v) ≡ gives) × (r ≡ false → kindOf c (fromZero valueZero v) ≡ gives → ⊥)) ⌝ }
 {
     if f.to != 0 {
         return false;
@@ -94,8 +96,8 @@ fn serves(f: Form, v: usize) -> bool
 // Structure k of table t, which serves the value, against the nearest of those before it.
 fn nearer(tab: &[u32], t: usize, k: usize, best: usize) -> usize
     requires { ⌜ Within (now tab) t × (k < countOf (now tab) t) × Place (now tab) t best ⌝ }
-    ensures { λ r. ⌜ ((tables : List (List Structure)) (x : ℕ) → Ready tables (now (tab .entry))
-        → kindOf (structureOf tables t k) (lower 131072 x) ≡ gives → Served tables x t k best → Served tables x t (k + 1) r)
+    ensures { λ r. ⌜ ((tables : List (List Structure)) (x : ℕ) → Compiled tables (now (tab .entry))
+        → kindOf (structureOf tables t k) (fromZero valueZero x) ≡ gives → Served tables x t k best → Served tables x t (k + 1) r)
         × Place (now (tab .entry)) t r ⌝ }
 {
     if best == 64 {
@@ -191,10 +193,10 @@ fn values(
     known: &mut [u8],
     marks: &mut [u8],
 ) -> [usize; 9]
-    requires { ⌜ FilledBy (now tab) n × Known (now tab) (now known) × (length (now marks) ≡ n) ⌝ }
-    ensures { λ r. ⌜ ((tables : List (List Structure)) → Ready tables (now (tab .entry))
+    requires { ⌜ CompiledCount (now tab) n × Known (now tab) (now known) × (length (now marks) ≡ n) ⌝ }
+    ensures { λ r. ⌜ ((tables : List (List Structure)) → Compiled tables (now (tab .entry))
         → ValuedTo tables (now (next .entry)) v (now (marks .exit)) r (n + 1))
-        × Nine r × Known (now (tab .entry)) (now (known .exit)) ⌝ }
+        × NineCosts r × Known (now (tab .entry)) (now (known .exit)) ⌝ }
 {
     let mut cur = [NO_STREAM; 9];
     let mut t = 1;
@@ -255,7 +257,7 @@ fn following(t: usize, n: usize) -> usize
 // Switches make costs smaller, in rounds, until n tables in a row do not change. After so many rounds every table is settled whose
 // cheapest way has so many switches, and a cheapest way comes to no table twice: so n rounds are enough, the last of them to see it.
 fn settle(tab: &[u32], n: usize, first: [usize; 9]) -> [usize; 9]
-    requires { ⌜ FilledBy (now tab) n × (length first ≡ 9) ⌝ }
+    requires { ⌜ CompiledCount (now tab) n × (length first ≡ 9) ⌝ }
     ensures { λ r. ⌜ Settled (now (tab .entry)) n first r ⌝ }
 {
     let mut cur = first;
@@ -306,7 +308,7 @@ fn pick(tab: &[u32], t: usize, near: usize, first: &[usize; 9], cur: &[usize; 9]
 
 // Among the marks of the n tables, the value's structures, those of the settled costs.
 fn mark(tab: &[u32], n: usize, first: &[usize; 9], cur: &[usize; 9], marks: &mut [u8])
-    requires { ⌜ FilledBy (now tab) n × (length (now marks) ≡ n) × ((t : ℕ) → 1 ≤ t → t ≤ n → Place (now tab) t (getD (now marks) (t - 1) 0)) ⌝ }
+    requires { ⌜ CompiledCount (now tab) n × (length (now marks) ≡ n) × ((t : ℕ) → 1 ≤ t → t ≤ n → Place (now tab) t (getD (now marks) (t - 1) 0)) ⌝ }
     ensures { λ _. ⌜ ((t : ℕ) → 1 ≤ t → t ≤ n → PickedFrom (now (tab .entry)) (now (first .entry)) (now (cur .entry)) t
         (getD (now (marks .entry)) (t - 1) 0) (getD (now (marks .exit)) (t - 1) 0)) ⌝ }
 {
@@ -335,7 +337,7 @@ fn switches(tab: &[u32], t: usize) -> bool
 
 // Whether any of the n tables has a switch.
 fn has_switch(tab: &[u32], n: usize) -> bool
-    requires { ⌜ FilledBy (now tab) n ⌝ }
+    requires { ⌜ CompiledCount (now tab) n ⌝ }
     ensures { λ r. ⌜ (r ≡ false → NoSwitch (now (tab .entry)) n) ⌝ }
 {
     let mut t = 1;
@@ -358,10 +360,10 @@ fn layer(
     known: &mut [u8],
     marks: &mut [u8],
 ) -> [usize; 9]
-    requires { ⌜ FilledBy (now tab) n × Known (now tab) (now known) × (length (now marks) ≡ n) × (any ≡ false → NoSwitch (now tab) n) ⌝ }
-    ensures { λ r. ⌜ ((tables : List (List Structure)) (vs : List ℤ) → Ready tables (now (tab .entry)) → length tables ≡ n
-        → Exact (rule tables) cap vs (at (now (next .entry))) → Layer tables (lower 131072 v) vs r (now (marks .exit)))
-        × Nine r × Known (now (tab .entry)) (now (known .exit)) ⌝ }
+    requires { ⌜ CompiledCount (now tab) n × Known (now tab) (now known) × (length (now marks) ≡ n) × (any ≡ false → NoSwitch (now tab) n) ⌝ }
+    ensures { λ r. ⌜ ((tables : List (List Structure)) (vs : List ℤ) → Compiled tables (now (tab .entry)) → length tables ≡ n
+        → Exact (rule tables) cap vs (at (now (next .entry))) → Layer tables (fromZero valueZero v) vs r (now (marks .exit)))
+        × NineCosts r × Known (now (tab .entry)) (now (known .exit)) ⌝ }
 {
     let first = values(tab, n, v, next, known, marks);
     if any {
@@ -374,8 +376,8 @@ fn layer(
 
 // The search, a layer for each value.
 fn all_layers(tab: &[u32], n: usize, any: bool, xs: &[i16], order: usize, work: &mut [u8]) -> usize
-    requires { ⌜ FilledBy (now tab) n × (any ≡ false → NoSwitch (now tab) n) × (length (now xs) * n ≤ length (now work)) ⌝ }
-    ensures { λ r. ⌜ ((tables : List (List Structure)) → Ready tables (now (tab .entry)) → length tables ≡ n
+    requires { ⌜ CompiledCount (now tab) n × (any ≡ false → NoSwitch (now tab) n) × (length (now xs) * n ≤ length (now work)) ⌝ }
+    ensures { λ r. ⌜ ((tables : List (List Structure)) → Compiled tables (now (tab .entry)) → length tables ≡ n
         → Planned tables (differences order (now (xs .entry))) (now (work .exit)) r) × (r ≤ 524282) ⌝ }
 {
     let mut known = unknown();
@@ -393,8 +395,8 @@ fn all_layers(tab: &[u32], n: usize, any: bool, xs: &[i16], order: usize, work: 
 
 // The search where there is one table, and no switch: each value's structure is its first step, and their bits add up.
 fn one_table(tab: &[u32], xs: &[i16], order: usize, work: &mut [u8]) -> usize
-    requires { ⌜ FilledBy (now tab) 1 × NoSwitch (now tab) 1 × (length (now xs) ≤ length (now work)) ⌝ }
-    ensures { λ r. ⌜ ((tables : List (List Structure)) → Ready tables (now (tab .entry)) → length tables ≡ 1
+    requires { ⌜ CompiledCount (now tab) 1 × NoSwitch (now tab) 1 × (length (now xs) ≤ length (now work)) ⌝ }
+    ensures { λ r. ⌜ ((tables : List (List Structure)) → Compiled tables (now (tab .entry)) → length tables ≡ 1
         → Planned tables (differences order (now (xs .entry))) (now (work .exit)) r) × (r ≤ 524282) ⌝ }
 {
     let mut known = unknown();
@@ -416,8 +418,8 @@ fn one_table(tab: &[u32], xs: &[i16], order: usize, work: &mut [u8]) -> usize
 // The bits of the shortest stream for the samples' differences: 524,281 stands for that many and more, 524,282 for no stream. The first
 // steps of the best streams go to the work space, a byte for each sample and table.
 pub fn plan(tab: &[u32], n: usize, xs: &[i16], order: usize, work: &mut [u8]) -> usize
-    requires { ⌜ FilledBy (now tab) n × (length (now xs) ≤ 65536) × (length (now xs) * n ≤ length (now work)) ⌝ }
-    ensures { λ r. ⌜ ((tables : List (List Structure)) → Ready tables (now (tab .entry)) → length tables ≡ n
+    requires { ⌜ CompiledCount (now tab) n × (length (now xs) ≤ 65536) × (length (now xs) * n ≤ length (now work)) ⌝ }
+    ensures { λ r. ⌜ ((tables : List (List Structure)) → Compiled tables (now (tab .entry)) → length tables ≡ n
         → Planned tables (differences order (now (xs .entry))) (now (work .exit)) r)
         × (length (now (work .exit)) ≡ length (now (work .entry))) × (r ≤ 524282) ⌝ }
 {

@@ -13,7 +13,8 @@ use lib.ListN.{length}
 use Rattle.wire.specs.Numbers.{byteAt, numberAt}
 use Rattle.wire.specs.RuleWords.{allIn, every}
 use Rattle.wire.proofs.Laws.{all-at, kept-first, unlike}
-use Rattle.pointers.specs.Pointers.{fewestPointers, mostPointers, section0Length, countOf, idOf, lengthOf, present, startOf, endOf, sectionOf}
+use Rattle.wire.specs.Bounds.{fewestPointers, mostPointers}
+use Rattle.pointers.specs.Pointers.{section0Length, countOf, idOf, lengthOf, present, startOf, endOf, sectionOf}
 use Rattle.record.specs.RecordRules.{lengthRight, holdsCheck, recordCheckRight, lettersRight, idRight, ownPointerRight, section0Right}
 use Rattle.record.specs.RecordRules.{sectionsApart, placedRight, allPlacedRight, sectionCheckRight, checksRight}
 use Rattle.record.specs.Opening.{openRefusal}

@@ -12,7 +12,8 @@ use Rattle.wire.specs.Numbers.{numberAt}
 use Rattle.wire.proofs.Laws.{all-all}
 use Rattle.wire.proofs.Places.{stands-byte, stands-written}
 use Rattle.header.specs.Header.{section1Right}
-use Rattle.pointers.specs.Pointers.{dataAt, fewestPointers, idOf, present, sectionOf}
+use Rattle.wire.specs.Bounds.{fewestPointers}
+use Rattle.pointers.specs.Pointers.{dataAt, idOf, present, sectionOf}
 use Rattle.record.specs.RecordRules.{lengthRight, holdsCheck, recordCheckRight, lettersRight, idRight, ownPointerRight, section0Right}
 use Rattle.record.specs.RecordRules.{sectionsApart, placedRight, allPlacedRight, sectionCheckRight, checksRight, fieldsRight}
 use Rattle.record.specs.Opening.{openRefusal}

@@ -9,7 +9,8 @@ use lib.Dec.{leb, ltb, eqb}
 use lib.ListN.{length, getD}
 use Rattle.wire.specs.Numbers.{numberAt, bytesOf}
 use Rattle.wire.specs.RuleWords.{every}
-use Rattle.pointers.specs.Pointers.{fewestPointers, mostPointers, countOf, idOf, sectionOf}
+use Rattle.wire.specs.Bounds.{fewestPointers, mostPointers}
+use Rattle.pointers.specs.Pointers.{countOf, idOf, sectionOf}
 use Rattle.record.specs.RecordRules.{holdsCheck}
 use Rattle.layout.specs.Layout.{evened, sectionLength, checked, sectionBytes, letters, zeroReserved, pointerBytes, section2Bytes}
 

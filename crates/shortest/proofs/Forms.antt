@@ -18,7 +18,7 @@ use lib.Signed.{mag}
 use Rattle.wire.proofs.Laws.{unlike}
 use Rattle.wire.specs.RuleWords.{every}
 use Rattle.bits.specs.Bits.{numberAfter, numberOf, signed, begins}
-use Rattle.bits.specs.InnerRaised.{lower}
+use Rattle.bits.specs.InnerRaised.{fromZero}
 use Rattle.bits.specs.InnerWindow.{turned}
 use Rattle.bits.proofs.Laws.{Small, length-lowFirst, small-lowFirst, number-after, number-small}
 use Rattle.bits.proofs.Raised.{lower-one, mag-inside, mag-outside}
@@ -46,8 +46,8 @@ back-mod p q d r h =
     ap (λ (y : ℕ). y % p) e ∙ mul-add-mod-self-right d p (p - suc r) ∙ mod-eq-of-lt (omega arith)
 
 -- the w lowest bits are those of the number that is held
-pub twos-lower : (w x : ℕ) → w ≤ 17 → twos w (lower 131072 x) ≡ x % 2 ^ w
-unfolding twos lower
+pub twos-lower : (w x : ℕ) → w ≤ 17 → twos w (fromZero 131072 x) ≡ x % 2 ^ w
+unfolding twos fromZero
 twos-lower w x h = go (ltb x 131072) refl
   where
     p : ℕ
@@ -78,39 +78,39 @@ twos-lower w x h = go (ltb x 131072) refl
         sym (mul-add-mod-self-right m p (x - 131072)) ∙ ap (λ (y : ℕ). y % p) s
 
 -- the values that a value's structure serves are those from `lowest` up to `beyond`
-serves-inside : (r base x : ℕ) → r ≤ 16 → base < 65536 → lowest base r ≤ x → x < beyond base r → serves r base (lower 131072 x) ≡ true
+serves-inside : (r base x : ℕ) → r ≤ 16 → base < 65536 → lowest base r ≤ x → x < beyond base r → serves r base (fromZero 131072 x) ≡ true
 unfolding serves holds
 serves-inside zero base x h b g l =
     let e : x ≡ lowest base 0 = omega arith in
     rw (e, lower-base base b) (equal-self (signed 16 base))
 serves-inside (suc w) base x h b g l =
     let m = pow-mono {i = w} {j = 15} (omega arith) in
-    lt-ltb (mag (lower 131072 x)) (2 ^ w) (mag-inside 131072 x (2 ^ w) (omega arith) (omega arith))
+    lt-ltb (mag (fromZero 131072 x)) (2 ^ w) (mag-inside 131072 x (2 ^ w) (omega arith) (omega arith))
 
-serves-outside : (r base x : ℕ) → r ≤ 16 → base < 65536 → (x < lowest base r) ⊎ (beyond base r ≤ x) → serves r base (lower 131072 x) ≡ false
+serves-outside : (r base x : ℕ) → r ≤ 16 → base < 65536 → (x < lowest base r) ⊎ (beyond base r ≤ x) → serves r base (fromZero 131072 x) ≡ false
 unfolding serves holds
-serves-outside zero base x h b o = go (equal (signed 16 base) (lower 131072 x)) refl
+serves-outside zero base x h b o = go (equal (signed 16 base) (fromZero 131072 x)) refl
   where
-    go : (t : Bool) → equal (signed 16 base) (lower 131072 x) ≡ t → t ≡ false
+    go : (t : Bool) → equal (signed 16 base) (fromZero 131072 x) ≡ t → t ≡ false
     go true e =
-        let same = equal-true (signed 16 base) (lower 131072 x) e in
+        let same = equal-true (signed 16 base) (fromZero 131072 x) e in
         let q : lowest base 0 ≡ x = lower-one 131072 (lowest base 0) x (lower-base base b ∙ same) in
         absurd (⊎-elim (λ l. omega arith) (λ l. omega arith) o)
     go false e = refl
 serves-outside (suc w) base x h b o =
     let m = pow-mono {i = w} {j = 15} (omega arith) in
-    le-ltb (mag (lower 131072 x)) (2 ^ w) (mag-outside 131072 x (2 ^ w) (⊎-elim (λ l. inl (omega arith)) (λ l. inr (omega arith)) o))
+    le-ltb (mag (fromZero 131072 x)) (2 ^ w) (mag-outside 131072 x (2 ^ w) (⊎-elim (λ l. inl (omega arith)) (λ l. inr (omega arith)) o))
 
 -- ---- a right structure's form, its base value of two bytes
 
 module _ (n : ℕ) (c : Structure) (right : structureRight n c ≡ true) (small : c .base < 65536) (f : Form) (form : formOf c ≡ f)
     (x : ℕ) where
   -- a switch
-  pub form-leads : (f .to ≡ 0 → ⊥) → kindOf c (lower 131072 x) ≡ leads (f .to)
+  pub form-leads : (f .to ≡ 0 → ⊥) → kindOf c (fromZero 131072 x) ≡ leads (f .to)
   form-leads h =
       let to = ap (λ (g : Form). g .to) form in
       let s = to-switch c (λ e. h (sym to ∙ e)) in
-      kind-switch c (lower 131072 x) (s .0) ∙ ap leads (s .1 ∙ to)
+      kind-switch c (fromZero 131072 x) (s .0) ∙ ap leads (s .1 ∙ to)
 
   form-value : f .to ≡ 0 → (c .mode ≡ 0 → ⊥) × (f .lo ≡ lowest (c .base) (remainderOf c)) × (f .hi ≡ beyond (c .base) (remainderOf c))
   unfolding formOf
@@ -120,25 +120,25 @@ module _ (n : ℕ) (c : Structure) (right : structureRight n c ≡ true) (small 
       (m, rw (← form, plain), rw (← form, plain))
 
   -- a value's structure with a code for the value
-  pub form-gives : f .to ≡ 0 → f .lo ≤ x → x < f .hi → kindOf c (lower 131072 x) ≡ gives
+  pub form-gives : f .to ≡ 0 → f .lo ≤ x → x < f .hi → kindOf c (fromZero 131072 x) ≡ gives
   form-gives h g l =
       let v = form-value h in
       let ok = fine n c right in
-      kind-value c (lower 131072 x) (v .0)
+      kind-value c (fromZero 131072 x) (v .0)
       (serves-inside (remainderOf c) (c .base) x (omega (arith, ok .rest)) small (omega (arith, v .1)) (omega (arith, v .2)))
 
   -- and one without
-  pub form-dead : f .to ≡ 0 → (x < f .lo) ⊎ (f .hi ≤ x) → kindOf c (lower 131072 x) ≡ dead
+  pub form-dead : f .to ≡ 0 → (x < f .lo) ⊎ (f .hi ≤ x) → kindOf c (fromZero 131072 x) ≡ dead
   form-dead h o =
       let v = form-value h in
       let ok = fine n c right in
-      kind-dead c (lower 131072 x) (v .0)
+      kind-dead c (fromZero 131072 x) (v .0)
       (serves-outside (remainderOf c) (c .base) x (omega (arith, ok .rest)) small (rw (v .1, v .2) at o))
 
   -- how long its code word is
-  pub form-length : length (wordOf c (lower 131072 x)) ≡ f .prefix + f .remainder
+  pub form-length : length (wordOf c (fromZero 131072 x)) ≡ f .prefix + f .remainder
   unfolding formOf
-  form-length = rw (← form) (length-word c (lower 131072 x))
+  form-length = rw (← form) (length-word c (fromZero 131072 x))
 
 -- ---- which of two words of a table is the smaller
 

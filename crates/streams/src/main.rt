@@ -3,7 +3,7 @@
 // lines are of the longest lead, 65,535 bytes: all switches, and all codes of one bit.
 ghost use Prim.Native.Nat.{_≤_};
 ghost use lib.ListN.{length};
-ghost use Rattle.compiled.specs.InnerForm.{Held};
+ghost use Rattle.compiled.specs.InnerForm.{CompiledSomeOrNone};
 use libc::STDOUT_FILENO;
 use reading::Cursor;
 use reading::Read;
@@ -114,7 +114,7 @@ fn put_end(count: usize, at: usize) {
 
 // So many values of a stream, by the tables held.
 fn put_values(stream: &[u8], tab: &[u32], count: usize)
-    requires { ⌜ Held (now tab) × (length (now stream) ≤ 1048576) ⌝ }
+    requires { ⌜ CompiledSomeOrNone (now tab) × (length (now stream) ≤ 1048576) ⌝ }
 {
     let mut c = Cursor::new();
     let mut left = count;

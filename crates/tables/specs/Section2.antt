@@ -5,6 +5,7 @@ use mathlib.Core.Bool.{Bool, true, _&&_, cond}
 use mathlib.Core.List.{List, [], _∷_}
 use lib.Dec.{leb, eqb}
 use lib.ListN.{length, getD}
+use Rattle.wire.specs.Bounds.{mostTables, mostStructures}
 use Rattle.wire.specs.Numbers.{numberAt}
 use Rattle.wire.specs.RuleWords.{every, endsBy}
 use Rattle.tables.specs.declared.Structure.{Structure}
@@ -46,7 +47,7 @@ tableOf tables (suc k) = getD tables k []
 -- 1 to 64 structures, each by its rule, and no prefix that begins another or equals it
 unfoldable pub tableRight : ℕ → List Structure → Bool
 tableRight tables cs =
-    leb 1 (length cs) && (leb (length cs) 64 && (every (structureRight tables) cs && prefixFree cs))
+    leb 1 (length cs) && (leb (length cs) mostStructures && (every (structureRight tables) cs && prefixFree cs))
 
 -- 7: the default table alone, or 1 to 8 tables, each by its rule; and behind them at most so many spare bytes. (A section's length is
 -- even, so that in a record no spare byte can follow the default table's two bytes.)
@@ -54,6 +55,6 @@ unfoldable pub section2Right : ℕ → List ℕ → ℕ → Bool
 section2Right spare s at =
     cond (isDefault s at) (endsBy spare s (at + 2))
     (leb 1 (tableCount s at)
-    && (leb (tableCount s at) 8
+    && (leb (tableCount s at) mostTables
     && (every (tableRight (tableCount s at)) (tablesFrom s (at + 2) (tableCount s at))
     && endsBy spare s (afterTables s (at + 2) (tableCount s at)))))

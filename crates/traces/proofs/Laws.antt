@@ -12,7 +12,7 @@ use lib.Dec.{ltb}
 use lib.IntN.{ℤ, pos}
 use lib.ListN.{length, take, drop, set}
 use lib.Seq.{take-all, take-suc-set}
-use Rattle.bits.specs.InnerRaised.{lower}
+use Rattle.bits.specs.InnerRaised.{fromZero}
 use Rattle.bits.proofs.Raised.{lower-same}
 use Rattle.samples.specs.Differences.{sampleOf}
 use Rattle.samples.specs.Trace.{Trace, rebuilt, fault, fits16, behind, afterSample}
@@ -27,21 +27,21 @@ use Rattle.traces.specs.Rebuilding.{afterNext, rebuildFrom, rebuild}
 -- a sample that is held with 229,376 added
 module _ (y : ℕ) where
   -- it is of 16 bits
-  fits-within : 196608 ≤ y → y < 262144 → fits16 (lower 229376 y) ≡ true
+  fits-within : 196608 ≤ y → y < 262144 → fits16 (fromZero 229376 y) ≡ true
   fits-within h g = fits-lower 229376 y (omega arith) ∙ rw (le-leb 196608 y h, lt-ltb y 262144 g)
 
   -- it is not
-  fits-outside : (y < 196608) ⊎ (262144 ≤ y) → fits16 (lower 229376 y) ≡ false
+  fits-outside : (y < 196608) ⊎ (262144 ≤ y) → fits16 (fromZero 229376 y) ≡ false
   fits-outside (inl h) = fits-lower 229376 y (omega arith) ∙ rw (lt-leb 196608 y h)
   fits-outside (inr h) = fits-lower 229376 y (omega arith) ∙ rw (le-leb 196608 y (omega arith), le-ltb y 262144 h)
 
 module _ (tables : List (List Structure)) (order left place : ℕ) (last other : ℤ) (table : ℕ) (bs : List ℕ) where
   -- a value was read, and y stands for its sample
   module _ {v : ℤ} {next : ℕ} {rest : List ℕ} (read : gave v next rest ≡ readNext tables table bs) (y : ℕ)
-      (e : lower 229376 y ≡ sampleOf order place v last other) where
+      (e : fromZero 229376 y ≡ sampleOf order place v last other) where
     -- the rest goes on from it
     pub from-sample : 196608 ≤ y → y < 262144 →
-        let x = lower 32768 (y - 196608) in
+        let x = fromZero 32768 (y - 196608) in
         behind x (rebuildFrom tables order left (place + 1) x last next rest)
         ≡ rebuildFrom tables order (suc left) place last other table bs
     unfolding rebuildFrom afterSample
@@ -63,8 +63,8 @@ module _ (tables : List (List Structure)) (order left place : ℕ) (last other :
 
 -- nothing is in it at first
 pub room-start : (tables : List (List Structure)) (order n at table : ℕ) (bs : List ℕ) → at ≡ 0 → table ≡ 1
-    → rebuild tables order n bs ≡ before [] (rebuildFrom tables order (n - 0) 0 (lower 32768 32768) (lower 32768 32768) table (drop at bs))
-unfolding rebuild lower
+    → rebuild tables order n bs ≡ before [] (rebuildFrom tables order (n - 0) 0 (fromZero 32768 32768) (fromZero 32768 32768) table (drop at bs))
+unfolding rebuild fromZero
 room-start tables order n at table bs e f = rw (e, f, sub-zero, before-none (rebuildFrom tables order n 0 (pos 0) (pos 0) 1 bs))
 
 -- a sample is put behind those that are there

@@ -5,17 +5,17 @@ ghost use mathlib.Core.List.{List};
 ghost use Prim.Native.Nat.{ℕ, suc, _+_, _*_, _<_, _≤_};
 ghost use lib.ListN.{length, drop};
 ghost use Rattle.bits.specs.Bits.{bitsIn};
-ghost use Rattle.bits.specs.InnerRaised.{lower};
+ghost use Rattle.bits.specs.InnerRaised.{sampleZero, fromZero};
 ghost use Rattle.samples.specs.InnerTrace.{traceOf};
 ghost use Rattle.tables.specs.declared.Structure.{Structure};
-ghost use Rattle.compiled.specs.InnerForm.{Holding, Held};
+ghost use Rattle.compiled.specs.InnerForm.{CompiledOrNone, CompiledSomeOrNone};
 ghost use Rattle.traces.specs.Rebuilding.{rebuildFrom, rebuild};
-ghost use Rattle.traces.specs.InnerTrace.{stepped, Stepped};
+ghost use Rattle.traces.specs.InnerTrace.{traceFrom, SampledWithin};
 use reading::Cursor;
 use reading::Read;
 
 // What a step answers: a sample, 32,768 added, and the cursor behind its code; or the number of the fault met.
-pub enum Step {
+pub enum Sampled {
     Sample(usize, Cursor),
     Fault(u8),
 }
@@ -29,33 +29,33 @@ fn next_sample(
     place: usize,
     last: usize,
     other: usize,
-) -> Step
-    requires { ⌜ Held (now tab) × (length (now s) ≤ 1048576) × (last < 65536) × (other < 65536) ⌝ }
-    ensures told { λ r. ⌜ ((tables : List (List Structure)) (left : ℕ) → Holding tables (now (tab .entry))
-        → stepped (bitsIn (now (s .entry))) (λ x. rebuildFrom tables order left (place + 1) x (lower 32768 last)) r
-        ≡ rebuildFrom tables order (suc left) place (lower 32768 last) (lower 32768 other) (c .table)
+) -> Sampled
+    requires { ⌜ CompiledSomeOrNone (now tab) × (length (now s) ≤ 1048576) × (last < 65536) × (other < 65536) ⌝ }
+    ensures told { λ r. ⌜ ((tables : List (List Structure)) (left : ℕ) → CompiledOrNone tables (now (tab .entry))
+        → traceFrom (bitsIn (now (s .entry))) (λ x. rebuildFrom tables order left (place + 1) x (fromZero sampleZero last)) r
+        ≡ rebuildFrom tables order (suc left) place (fromZero sampleZero last) (fromZero sampleZero other) (c .table)
         (drop (c .at) (bitsIn (now (s .entry))))) ⌝ }
-    ensures fits { λ r. ⌜ Stepped (length (now (s .entry)) * 8) r ⌝ }
+    ensures fits { λ r. ⌜ SampledWithin (length (now (s .entry)) * 8) r ⌝ }
 {
     match c.value(s, tab) {
         Read::Value(v, d) => {
             let y = samples::sample_of(order, place, v, last, other);
             if y < 196608 {
-                return Step::Fault(13);
+                return Sampled::Fault(13);
             }
             if 262144 <= y {
-                return Step::Fault(13);
+                return Sampled::Fault(13);
             }
-            Step::Sample(y - 196608, d)
+            Sampled::Sample(y - 196608, d)
         }
-        Read::Stuck => Step::Fault(12),
+        Read::Stuck => Sampled::Fault(12),
     }
 }
 
 // The room is filled with the samples that a stream is rebuilt to: 0, or the number of the first fault met.
 pub fn rebuild(s: &[u8], tab: &[u32], order: usize, room: &mut [i16]) -> u8
-    requires { ⌜ Held (now tab) × (length (now s) ≤ 1048576) ⌝ }
-    ensures { λ r. ⌜ ((tables : List (List Structure)) → Holding tables (now (tab .entry))
+    requires { ⌜ CompiledSomeOrNone (now tab) × (length (now s) ≤ 1048576) ⌝ }
+    ensures { λ r. ⌜ ((tables : List (List Structure)) → CompiledOrNone tables (now (tab .entry))
         → traceOf r (now (room .exit)) ≡ rebuild tables order (length (now (room .entry))) (bitsIn (now (s .entry))))
         × (length (now (room .exit)) ≡ length (now (room .entry))) ⌝ }
 {
@@ -66,14 +66,14 @@ pub fn rebuild(s: &[u8], tab: &[u32], order: usize, room: &mut [i16]) -> u8
     let mut j = 0;
     while j < n {
         match next_sample(c, s, tab, order, j, last, other) {
-            Step::Sample(x, d) => {
+            Sampled::Sample(x, d) => {
                 room[j] = samples::lowered(x);
                 other = last;
                 last = x;
                 c = d;
                 j += 1;
             }
-            Step::Fault(number) => {
+            Sampled::Fault(number) => {
                 return number;
             }
         }

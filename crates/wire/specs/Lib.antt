@@ -1,3 +1,4 @@
 pub mod Numbers
 pub mod Check
 pub mod RuleWords
+pub mod Bounds

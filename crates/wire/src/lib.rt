@@ -10,6 +10,7 @@ ghost use Rattle.wire.specs.RuleWords.{endsBy};
 
 // The most bytes that a record may have, and the most samples that a lead or a beat may have (01, Numbers that bound the work).
 pub const MOST_BYTES: usize = 1048576;
+
 pub const MOST_SAMPLES: usize = 65536;
 
 // The byte at a place, as a number.

@@ -7,7 +7,7 @@ use lib.IntN.{pos}
 use lib.ListN.{length, getD}
 use mir.Syntax.{w16}
 use mir.ValLaws.{toZ-ofZ}
-use Rattle.bits.specs.InnerRaised.{lower}
+use Rattle.bits.specs.InnerRaised.{fromZero}
 use Rattle.entries.specs.Section4.{fiducialOf, qrsType, qrsFiducial, zoneEnd}
 use Rattle.beats.specs.Sums.{beatValueAt}
 use Rattle.beats.proofs.Laws.{RightZone, beat-right, zone-here, place-end, place-before, place-in, beat-at}
@@ -15,7 +15,7 @@ use Rattle.beats.proofs.beat_by.Statement.{statement}
 use Rattle.beats.proofs.beat_by.Tie as tie
 
 returns : tie.Need-returns
-unfolding lower beatValueAt
+unfolding fromZero beatValueAt
 returns c =
     let a = c .before .before .args in
     (rw (place-end (a .s .now) (a .zones) (a .k) (a .n) (omega arith)), omega arith)
@@ -26,7 +26,7 @@ zone-begin-requires c κs =
     omega (arith, beat-right (length (p .args .beat .now)) (p .args .s .now) (p .pre .0) .few)
 
 returns-2 : tie.Need-returns-2
-unfolding lower beatValueAt
+unfolding fromZero beatValueAt
 returns-2 c =
     let p = c .before .before .before .before in
     let a = p .args in

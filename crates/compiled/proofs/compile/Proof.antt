@@ -3,13 +3,13 @@ use Prim.Native.Nat.{_-_, _≤_}
 use mathlib.Core.Path.{sym, _∙_}
 use native.Mathlib.Omega.{arith}
 use Rattle.tables.specs.Section2.{tablesIn}
-use Rattle.compiled.specs.InnerForm.{Ready}
+use Rattle.compiled.specs.InnerForm.{Compiled}
 use Rattle.compiled.proofs.Putting.{ready-same}
 use Rattle.compiled.proofs.compile.Statement.{statement}
 use Rattle.compiled.proofs.compile.Tie as tie
 
 abbrev Inv-loop : tie.InvT-loop
-Inv-loop s at spare tab₀ t₀ tab t = (t ≤ 8) × Ready (tablesIn s at) tab
+Inv-loop s at spare tab₀ t₀ tab t = (t ≤ 8) × Compiled (tablesIn s at) tab
 
 abbrev μ-loop : tie.MeasureT-loop
 μ-loop s at spare tab₀ t₀ tab t = 8 - t

@@ -6,14 +6,14 @@ use lib.ListN.{length}
 use Rattle.compiled.proofs.Laws.{FineForm}
 use Rattle.samples.specs.Differences.{differences}
 use Rattle.samples.proofs.Laws.{length-differences}
-use Rattle.encode.specs.InnerEncode.{Going}
+use Rattle.encode.specs.InnerEncode.{PartWrittenBy}
 use Rattle.encode.proofs.Steps.{next-table, next-sink, next-inside, next-place, next-fine, next-most, going-value, going-switch, place-room}
 use Rattle.encode.proofs.run.Statement.{statement}
 use Rattle.encode.proofs.run.Tie as tie
 
 abbrev Inv-loop : tie.InvT-loop
 Inv-loop tab n xs order work bits out₀ t sink₀ i₀ left₀ out sink i left =
-    Going tab n (differences order xs) bits out₀ out sink i t left × (left ≤ left₀)
+    PartWrittenBy tab n (differences order xs) bits out₀ out sink i t left × (left ≤ left₀)
 
 abbrev μ-loop : tie.MeasureT-loop
 μ-loop tab n xs order work bits out₀ t sink₀ i₀ left₀ out sink i left = left

@@ -2,14 +2,14 @@
 use mathlib.Core.Path.{refl, _∙_}
 use native.Mathlib.Omega.{arith}
 use Rattle.samples.specs.Differences.{differences}
-use Rattle.encode.specs.InnerEncode.{Going}
+use Rattle.encode.specs.InnerEncode.{PartWrittenBy}
 use Rattle.encode.proofs.Steps.{going-start, next-sink, going-then, going-end}
 use Rattle.encode.proofs.walk.Statement.{statement}
 use Rattle.encode.proofs.walk.Tie as tie
 
 abbrev Inv-loop : tie.InvT-loop
 Inv-loop tab n xs order work bits out₀ gone₀ out gone =
-    Going tab n (differences order xs) bits out₀ out (gone .sink) (gone .i) (gone .t) (gone .left)
+    PartWrittenBy tab n (differences order xs) bits out₀ out (gone .sink) (gone .i) (gone .t) (gone .left)
 
 abbrev μ-loop : tie.MeasureT-loop
 μ-loop tab n xs order work bits out₀ gone₀ out gone = gone .left

@@ -35,8 +35,8 @@ form-at-requires c κs =
     let ready = start .pre .0 .1 in
     (ready .room, omega arith, omega (arith, held-count ready (start .args .t) (omega arith)))
 
-points-requires : tie.Need-points-requires
-points-requires c κs =
+fits-guess-requires : tie.Need-fits-guess-requires
+fits-guess-requires c κs =
     let start = c .before .before .before .before .before in
     let f = held-fine (start .pre .0 .1) (start .args .t) (omega arith) (c .before .before .before .guess .result % 64) (omega arith) in
     rw (c .form-at .ensures) (f .some, f .most)
@@ -49,7 +49,7 @@ returns c tables bs ready seen =
     let cs = getD tables t [] in
     let there : k < length cs = omega (arith, ready .says t (omega arith) .count) in
     let e = sym (read .form-at .ensures ∙ held-form ready t (omega arith) k (omega arith)) in
-    let begun = c .before .points .ensures (getD cs k noStructure) bs e seen (c .if2 .taken) in
+    let begun = c .before .fits-guess .ensures (getD cs k noStructure) bs e seen (c .if2 .taken) in
     ap some (sym e) ∙ ap formed (sym (matching-begun cs (held-apart ready t (omega arith)) k there bs begun))
 
 walk-requires : tie.Need-walk-requires
@@ -68,7 +68,7 @@ find-spec =
     shared-slice-read-if1
     cast-if1
     form-at-requires
-    points-requires
+    fits-guess-requires
     returns
     walk-requires
     returns-2)

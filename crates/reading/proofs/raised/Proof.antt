@@ -3,7 +3,7 @@ use Prim.Native.Nat.{ℕ, _+_, _-_, _*_}
 use mathlib.Core.Path.{ap, _∙_}
 use native.Mathlib.Omega.{arith}
 use borrow.Author.Needs.{needs}
-use Rattle.bits.specs.InnerRaised.{lower}
+use Rattle.bits.specs.InnerRaised.{fromZero}
 use Rattle.reading.proofs.Cursors.{lower-low, lower-high}
 use Rattle.reading.proofs.raised.Statement.{statement}
 use Rattle.reading.proofs.raised.Tie as tie
@@ -27,7 +27,7 @@ returns-2 : tie.Need-returns-2
 returns-2 c =
     let n = c .before .args .n in (
       λ w e.
-          ap (λ (half : ℕ). lower 131072 (131072 + n - 2 * half)) e ∙ lower-high w n (omega arith) (omega arith) (omega arith),
+          ap (λ (half : ℕ). fromZero 131072 (131072 + n - 2 * half)) e ∙ lower-high w n (omega arith) (omega arith) (omega arith),
       omega arith,
     )
 

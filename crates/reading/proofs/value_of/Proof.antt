@@ -8,7 +8,7 @@ use lib.ListN.{length, take, drop, length-drop}
 use lib.Pow.{pow-pos}
 use lib.Seq.{drop-drop}
 use Rattle.bits.specs.Bits.{numberOf, signed}
-use Rattle.bits.specs.InnerRaised.{lower}
+use Rattle.bits.specs.InnerRaised.{fromZero}
 use Rattle.bits.proofs.Windows.{window-after}
 use Rattle.compiled.specs.InnerForm.{lowest}
 use Rattle.reading.proofs.Laws.{value-base, value-rest, value-short}
@@ -28,8 +28,8 @@ returns c =
     let a = c .before .args in (
       λ d bs e right small seen.
           let v = value-form d (a .f) e right (c .before .pre .0 .3) in
-          let x : lower 131072 (a .f .lo) ≡ signed 16 (d .base) =
-          ap (lower 131072) (v .lo ∙ ap (lowest (d .base)) (c .if1 .taken)) ∙ lower-base (d .base) small in
+          let x : fromZero 131072 (a .f .lo) ≡ signed 16 (d .base) =
+          ap (fromZero 131072) (v .lo ∙ ap (lowest (d .base)) (c .if1 .taken)) ∙ lower-base (d .base) small in
           rw (
             v .rest,
             v .prefix,
@@ -95,7 +95,7 @@ returns-3 c =
           let n : c .before .before .after .result ≡ numberOf (take q (drop p l)) =
           c .before .before .after .ensures
           ∙ window-after l (a .w) p q (seen .window) (seen .small) (omega (arith, v .fine .most, v .fine .rest)) there in
-          let x : lower 131072 (c .raised .result) ≡ signed (suc (h .0)) (numberOf (take q (drop p l))) =
+          let x : fromZero 131072 (c .raised .result) ≡ signed (suc (h .0)) (numberOf (take q (drop p l))) =
           c .raised .ensures .0 (h .0) (h .2) ∙ ap (signed (suc (h .0))) n in
           rw (
             v .rest,

@@ -9,7 +9,7 @@ use lib.ListN.{length, getD, drop}
 use Rattle.bits.specs.Bits.{begins}
 use Rattle.tables.specs.declared.Structure.{Structure}
 use Rattle.tables.specs.Structures.{prefixOf, noStructure}
-use Rattle.compiled.specs.InnerForm.{formOf, Ready}
+use Rattle.compiled.specs.InnerForm.{formOf, Compiled}
 use Rattle.compiled.proofs.Laws.{held-count, held-form, held-fine}
 use Rattle.reading.specs.Reading.{matching}
 use Rattle.reading.specs.InnerCursor.{Seen, formed}
@@ -20,7 +20,7 @@ use Rattle.reading.proofs.walk.Tie as tie
 abbrev Inv-loop : tie.InvT-loop
 Inv-loop tab t w left n k₀ k =
     (k ≤ n)
-    × ((tables : List (List Structure)) (bs : List ℕ) → Ready tables tab → Seen bs w left
+    × ((tables : List (List Structure)) (bs : List ℕ) → Compiled tables tab → Seen bs w left
     → matching (drop k (getD tables t [])) bs ≡ matching (getD tables t []) bs)
 
 abbrev μ-loop : tie.MeasureT-loop
@@ -55,7 +55,7 @@ begins-with-requires c κs =
 -- the window tells whether the structure at k is the one
 tells : (c : tie.After-begins-with Inv-loop μ-loop) →
     let a = c .before .before .before .before .before .before .args in
-    (tables : List (List Structure)) (bs : List ℕ) → Ready tables (a .tab .now) → Seen bs (a .w) (a .left) →
+    (tables : List (List Structure)) (bs : List ℕ) → Compiled tables (a .tab .now) → Seen bs (a .w) (a .left) →
     let d = getD (getD tables (a .t) []) (c .before .before .before .loop .k) noStructure in
     (formOf d ≡ c .before .form-at .result) × (c .begins-with .result ≡ begins (prefixOf d) bs)
 tells c tables bs ready seen =
@@ -67,7 +67,7 @@ tells c tables bs ready seen =
 -- there is a structure at k
 there : (c : tie.After-begins-with Inv-loop μ-loop) →
     let a = c .before .before .before .before .before .before .args in
-    (tables : List (List Structure)) → Ready tables (a .tab .now) → c .before .before .before .loop .k < length (getD tables (a .t) [])
+    (tables : List (List Structure)) → Compiled tables (a .tab .now) → c .before .before .before .loop .k < length (getD tables (a .t) [])
 there c tables ready = omega (arith, ready .says (c .before .before .before .before .before .before .args .t) (omega arith) .count)
 
 returns : tie.Need-returns Inv-loop μ-loop

@@ -2,7 +2,7 @@
 use Prim.Native.Nat.{_+_, _*_, _-_}
 use native.Mathlib.Omega.{arith}
 use borrow.Author.Needs.{needs}
-use Rattle.bits.specs.InnerRaised.{lower}
+use Rattle.bits.specs.InnerRaised.{fromZero}
 use Rattle.bits.proofs.Raised.{lower-same, lower-plus, lower-minus}
 use Rattle.samples.proofs.Laws.{sample-plain, sample-one, sample-two}
 use Rattle.samples.proofs.sample_of.Statement.{statement}
@@ -18,9 +18,9 @@ returns : tie.Need-returns
 returns c =
     let a = c .before .before .args in
     let v = a .v in
-    let z = lower 131072 v in
+    let z = fromZero 131072 v in
     let told = c .before .plain .ensures .0 (c .if1 .taken) in
-    let itself = sample-plain (a .order) (a .place) z (lower 32768 (a .last)) (lower 32768 (a .other)) told in
+    let itself = sample-plain (a .order) (a .place) z (fromZero 32768 (a .last)) (fromZero 32768 (a .other)) told in
     (rw itself (lower-same 229376 (v + 98304) 131072 v (omega arith)), omega arith)
 
 add-result-2 : tie.Need-add-result-2
@@ -35,7 +35,7 @@ returns-2 c =
     let v = a .v in
     let l = a .last in
     let told = c .before .before .plain .ensures .1 (c .before .if1 .left) in
-    let one = sample-one (a .order) (a .place) (lower 131072 v) (lower 32768 l) (lower 32768 (a .other)) (c .if2 .taken) (omega arith) in
+    let one = sample-one (a .order) (a .place) (fromZero 131072 v) (fromZero 32768 l) (fromZero 32768 (a .other)) (c .if2 .taken) (omega arith) in
     (rw (one, lower-plus 131072 v 32768 l) (lower-same 229376 (v + l + 65536) 163840 (v + l) (omega arith)), omega arith)
 
 mul-result : tie.Need-mul-result
@@ -57,7 +57,7 @@ returns-3 c =
     let l = a .last in
     let o = a .other in
     let told = c .before .before .plain .ensures .1 (c .before .if1 .left) in
-    let two = sample-two (a .order) (a .place) (lower 131072 v) (lower 32768 l) (lower 32768 o) (omega arith) (omega arith) in (
+    let two = sample-two (a .order) (a .place) (fromZero 131072 v) (fromZero 32768 l) (fromZero 32768 o) (omega arith) (omega arith) in (
       rw (two, lower-plus 32768 l 32768 l, lower-plus 131072 v 65536 (l + l), lower-minus 196608 (v + (l + l)) 32768 o)
           (lower-same 229376 (v + 2 * l + 65536 - o) (196608 + o) (v + (l + l) + 32768) (omega arith)),
       omega arith,

@@ -5,7 +5,7 @@ use native.Mathlib.Omega.{arith}
 use borrow.Author.Needs.{needs}
 use lib.IntN.{pos}
 use lib.ListN.{getD}
-use Rattle.bits.specs.InnerRaised.{lower}
+use Rattle.bits.specs.InnerRaised.{fromZero}
 use Rattle.samples.proofs.Laws.{stored-at}
 use Rattle.samples.proofs.value_at.Statement.{statement}
 use Rattle.samples.proofs.value_at.Tie as tie
@@ -31,9 +31,9 @@ returns c =
     let last = c .before .before .earlier2 in
     let other = c .before .earlier3 in
     let e : a .i - 0 ≡ a .i = omega arith in
-    let x : lower 32768 (own .result) ≡ getD xs (a .i) (pos 0) = rw e at (own .ensures .1 (omega arith)) in
+    let x : fromZero 32768 (own .result) ≡ getD xs (a .i) (pos 0) = rw e at (own .ensures .1 (omega arith)) in
     let at =
-    stored-at (a .order) xs (a .i) (lower 32768 (last .result)) (lower 32768 (other .result)) (omega arith)
+    stored-at (a .order) xs (a .i) (fromZero 32768 (last .result)) (fromZero 32768 (other .result)) (omega arith)
     (last .ensures .1) (other .ensures .1) in
     (rw (told .0, at, x), told .1)
 

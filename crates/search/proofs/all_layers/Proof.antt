@@ -8,10 +8,10 @@ use lib.ListN.{length, drop, replicate, length-take, length-drop, getD-replicate
 use Rattle.samples.specs.Differences.{differences}
 use Rattle.samples.proofs.Laws.{length-differences}
 use Rattle.tables.specs.declared.Structure.{Structure}
-use Rattle.compiled.specs.InnerForm.{Ready}
+use Rattle.compiled.specs.InnerForm.{Compiled}
 use Rattle.paths.specs.InnerPaths.{Exact}
 use Rattle.shortest.specs.InnerRule.{rule}
-use Rattle.search.specs.InnerSearch.{cap, at, Trail, Known, Nine}
+use Rattle.search.specs.InnerSearch.{cap, at, Trail, Known, NineCosts}
 use Rattle.search.proofs.Layers.{zeros-exact, part-room, put-in, put-out, step-exact, step-trail}
 use borrow.Author.Needs.{needs}
 use Rattle.search.proofs.all_layers.Statement.{statement}
@@ -19,8 +19,8 @@ use Rattle.search.proofs.all_layers.Tie as tie
 
 abbrev Inv-loop : tie.InvT-loop
 Inv-loop tab n any xs order work₀ known₀ next₀ i₀ work known next i =
-    (i ≤ length xs) × (length work ≡ length work₀) × Nine next × Known tab known
-    × ((tables : List (List Structure)) → Ready tables tab → length tables ≡ n
+    (i ≤ length xs) × (length work ≡ length work₀) × NineCosts next × Known tab known
+    × ((tables : List (List Structure)) → Compiled tables tab → length tables ≡ n
     → Exact (rule tables) cap (drop i (differences order xs)) (at next) × Trail tables (differences order xs) work i)
 
 abbrev μ-loop : tie.MeasureT-loop

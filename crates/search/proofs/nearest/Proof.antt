@@ -6,9 +6,9 @@ use mathlib.Core.List.{List}
 use mathlib.Core.Logic.{inl, ⊎-elim}
 use native.Mathlib.Nat.{le-antisymm}
 use native.Mathlib.Omega.{arith}
-use Rattle.bits.specs.InnerRaised.{lower}
+use Rattle.bits.specs.InnerRaised.{fromZero}
 use Rattle.tables.specs.declared.Structure.{Structure}
-use Rattle.compiled.specs.InnerForm.{Ready}
+use Rattle.compiled.specs.InnerForm.{Compiled}
 use Rattle.paths.specs.InnerPaths.{Kind, gives}
 use Rattle.paths.proofs.Layer.{value-start}
 use Rattle.shortest.specs.InnerRule.{kindOf, structureOf, rule}
@@ -21,7 +21,7 @@ use Rattle.search.proofs.nearest.Tie as tie
 abbrev Inv-loop : tie.InvT-loop
 Inv-loop tab t v m best₀ k₀ best k =
     (k ≤ m) × (m ≡ countOf tab t) × (m ≤ 64) × Place tab t best
-    × ((tables : List (List Structure)) → Ready tables tab → Served tables v t k best)
+    × ((tables : List (List Structure)) → Compiled tables tab → Served tables v t k best)
 
 abbrev μ-loop : tie.MeasureT-loop
 μ-loop tab t v m best₀ k₀ best k = m - k
@@ -36,7 +36,7 @@ loop-holds c =
       c .count .ensures .0,
       c .count .ensures .1,
       inl refl,
-      λ tables ready. inl (refl, value-start (rule tables) (lower 131072 (a .v)) (a .t)),
+      λ tables ready. inl (refl, value-start (rule tables) (fromZero 131072 (a .v)) (a .t)),
     )
 
 sub-form-at : tie.Need-sub-form-at Inv-loop μ-loop
@@ -66,8 +66,8 @@ loop-again c =
     let l = c .before .before .before .before .loop in
     let h : (1 ≤ a .t) × (a .t ≤ 8) = (p .1, p .2) in
     let hk : l .k < countOf (a .tab .now) (a .t) = omega (arith, l .inv .1) in
-    let kind : List (List Structure) → Kind = λ tables. kindOf (structureOf tables (a .t) (l .k)) (lower 131072 (a .v)) in
-    let told : (tables : List (List Structure)) → Ready tables (a .tab .now)
+    let kind : List (List Structure) → Kind = λ tables. kindOf (structureOf tables (a .t) (l .k)) (fromZero 131072 (a .v)) in
+    let told : (tables : List (List Structure)) → Compiled tables (a .tab .now)
     → (c .before .serves .result ≡ true → kind tables ≡ gives) × (c .before .serves .result ≡ false → kind tables ≡ gives → ⊥) =
     λ tables ready.
     c .before .serves .ensures 8 (structureOf tables (a .t) (l .k)) (right-there ready (a .t) h (l .k) hk)

@@ -8,7 +8,7 @@ use lib.ListN.{length, set, drop, length-set}
 use Rattle.samples.specs.Differences.{differences}
 use Rattle.samples.proofs.Laws.{length-differences}
 use Rattle.tables.specs.declared.Structure.{Structure}
-use Rattle.compiled.specs.InnerForm.{Ready}
+use Rattle.compiled.specs.InnerForm.{Compiled}
 use Rattle.paths.specs.InnerPaths.{Exact}
 use Rattle.shortest.specs.InnerRule.{rule}
 use Rattle.search.specs.InnerSearch.{cap, at, Trail, IsNearest, Known}
@@ -20,7 +20,7 @@ use Rattle.search.proofs.one_table.Tie as tie
 abbrev Inv-loop : tie.InvT-loop
 Inv-loop tab xs order work₀ known₀ cost₀ i₀ work known cost i =
     (i ≤ length xs) × (length work ≡ length work₀) × (cost ≤ suc cap) × Known tab known
-    × ((tables : List (List Structure)) → Ready tables tab → length tables ≡ 1
+    × ((tables : List (List Structure)) → Compiled tables tab → length tables ≡ 1
     → Exact (rule tables) cap (drop i (differences order xs)) (at (alone cost)) × Trail tables (differences order xs) work i)
 
 abbrev μ-loop : tie.MeasureT-loop

@@ -6,9 +6,9 @@ use mathlib.Core.List.{List}
 use native.Mathlib.Omega.{arith}
 use lib.IntN.{ℤ}
 use lib.ListN.{length, length-set}
-use Rattle.bits.specs.InnerRaised.{lower}
+use Rattle.bits.specs.InnerRaised.{fromZero}
 use Rattle.tables.specs.declared.Structure.{Structure}
-use Rattle.compiled.specs.InnerForm.{Ready}
+use Rattle.compiled.specs.InnerForm.{Compiled}
 use Rattle.search.specs.InnerSearch.{at, AllMet}
 use Rattle.search.proofs.Settling.{total, total-set, Quiet, quiet-none, quiet-more, quiet-all, set-less, met-set}
 use Rattle.search.proofs.settle.Statement.{statement}
@@ -17,8 +17,8 @@ use Rattle.search.proofs.settle.Tie as tie
 abbrev Inv-loop : tie.InvT-loop
 Inv-loop tab n cur₀ t₀ quiet₀ cur t quiet =
     (1 ≤ t) × (t ≤ n) × (quiet ≤ n) × (n ≤ 8) × (length cur ≡ 9) × ((u : ℕ) → u < 9 → at cur u ≤ at cur₀ u) × Quiet tab n cur t quiet
-    × ((tables : List (List Structure)) (x : ℕ) (vs : List ℤ) → Ready tables tab → length tables ≡ n
-    → AllMet tables (lower 131072 x) vs cur₀ → AllMet tables (lower 131072 x) vs cur)
+    × ((tables : List (List Structure)) (x : ℕ) (vs : List ℤ) → Compiled tables tab → length tables ≡ n
+    → AllMet tables (fromZero 131072 x) vs cur₀ → AllMet tables (fromZero 131072 x) vs cur)
 
 abbrev μ-loop : tie.MeasureT-loop
 μ-loop tab n cur₀ t₀ quiet₀ cur t quiet = 9 * total cur + (n - quiet)

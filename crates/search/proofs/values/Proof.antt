@@ -6,7 +6,7 @@ use mathlib.Core.Logic.{⊎-elim}
 use native.Mathlib.Omega.{arith}
 use lib.ListN.{length, length-set, getD-replicate}
 use Rattle.tables.specs.declared.Structure.{Structure}
-use Rattle.compiled.specs.InnerForm.{Ready}
+use Rattle.compiled.specs.InnerForm.{Compiled}
 use Rattle.search.specs.InnerSearch.{cap, at, IsNearest, Known, ValuedTo}
 use Rattle.search.proofs.Laws.{place-most}
 use Rattle.search.proofs.Served.{valued, valued-more, set-most}
@@ -16,7 +16,7 @@ use Rattle.search.proofs.values.Tie as tie
 abbrev Inv-loop : tie.InvT-loop
 Inv-loop tab n v next known₀ marks₀ cur₀ t₀ known marks cur t =
     (1 ≤ t) × (t ≤ n + 1) × (n ≤ 8) × (length marks ≡ n) × (length cur ≡ 9) × ((u : ℕ) → u < 9 → at cur u ≤ suc cap)
-    × ((tables : List (List Structure)) → Ready tables tab → ValuedTo tables next v marks cur t) × Known tab known
+    × ((tables : List (List Structure)) → Compiled tables tab → ValuedTo tables next v marks cur t) × Known tab known
 
 abbrev μ-loop : tie.MeasureT-loop
 μ-loop tab n v next known₀ marks₀ cur₀ t₀ known marks cur t = n + 1 - t

@@ -7,10 +7,10 @@ use native.Mathlib.Omega.{arith}
 use borrow.Author.Needs.{needs}
 use lib.ListN.{length, drop}
 use Rattle.bits.specs.Bits.{bitsIn}
-use Rattle.bits.specs.InnerRaised.{lower}
+use Rattle.bits.specs.InnerRaised.{fromZero}
 use Rattle.samples.specs.Trace.{fault}
 use Rattle.tables.specs.declared.Structure.{Structure}
-use Rattle.compiled.specs.InnerForm.{Holding}
+use Rattle.compiled.specs.InnerForm.{CompiledOrNone}
 use Rattle.reading.specs.Reading.{gave, readNext}
 use Rattle.reading.specs.InnerCursor.{told, Onward}
 use Rattle.traces.specs.Rebuilding.{rebuildFrom}
@@ -23,8 +23,8 @@ read : (c : tie.After-known-told) →
     let a = c .before .before .before .before .before .before .args in
     let v = c .before .v .given .0 .0 in
     let d = c .before .v .given .0 .1 .0 in
-    ((tables : List (List Structure)) → Holding tables (a .tab .now)
-    → gave (lower 131072 v) (d .table) (drop (d .at) (bitsIn (a .s .now)))
+    ((tables : List (List Structure)) → CompiledOrNone tables (a .tab .now)
+    → gave (fromZero 131072 v) (d .table) (drop (d .at) (bitsIn (a .s .now)))
     ≡ readNext tables (a .c .table) (drop (a .c .at) (bitsIn (a .s .now))))
     × ((a .c .at < d .at) × (d .at ≤ length (a .s .now) * 8) × (v < 262144))
 read c =
@@ -48,13 +48,13 @@ sample-of-requires c κs = omega (arith, read c .1)
 outside : (c : tie.After-sample-of) →
     let a = c .before .before .before .before .before .before .before .args in
     (c .sample-of .result < 196608) ⊎ (262144 ≤ c .sample-of .result)
-    → (tables : List (List Structure)) (left : ℕ) → Holding tables (a .tab .now)
+    → (tables : List (List Structure)) (left : ℕ) → CompiledOrNone tables (a .tab .now)
     → fault 13
-    ≡ rebuildFrom tables (a .order) (suc left) (a .place) (lower 32768 (a .last)) (lower 32768 (a .other)) (a .c .table)
+    ≡ rebuildFrom tables (a .order) (suc left) (a .place) (fromZero 32768 (a .last)) (fromZero 32768 (a .other)) (a .c .table)
     (drop (a .c .at) (bitsIn (a .s .now)))
 outside c h tables left held =
     let a = c .before .before .before .before .before .before .before .args in
-    from-outside tables (a .order) left (a .place) (lower 32768 (a .last)) (lower 32768 (a .other)) (a .c .table)
+    from-outside tables (a .order) left (a .place) (fromZero 32768 (a .last)) (fromZero 32768 (a .other)) (a .c .table)
     (drop (a .c .at) (bitsIn (a .s .now)))
     (read (c .before) .0 tables held)
     (c .sample-of .result)
@@ -76,7 +76,7 @@ returns-3 c =
     let y = c .before .before .sample-of in
     let r = read (c .before .before .before) in (
       λ tables left held.
-          from-sample tables (a .order) left (a .place) (lower 32768 (a .last)) (lower 32768 (a .other)) (a .c .table)
+          from-sample tables (a .order) left (a .place) (fromZero 32768 (a .last)) (fromZero 32768 (a .other)) (a .c .table)
           (drop (a .c .at) (bitsIn (a .s .now)))
           (r .0 tables held)
           (y .result)
@@ -91,7 +91,7 @@ returns-4 c =
     let a = c .before .before .before .before .before .args in
     let bits = bitsIn (a .s .now) in (
       λ tables left held.
-          from-stuck tables (a .order) left (a .place) (lower 32768 (a .last)) (lower 32768 (a .other)) (a .c .table) (drop (a .c .at) bits)
+          from-stuck tables (a .order) left (a .place) (fromZero 32768 (a .last)) (fromZero 32768 (a .other)) (a .c .table) (drop (a .c .at) bits)
           (sym (ap (told bits) (c .enum-told .given .1)) ∙ c .before .before .value .ensures .0 tables held),
       omega arith,
     )

@@ -8,15 +8,15 @@ use lib.ListN.{length, take, drop, length-set}
 use mir.Syntax.{w16}
 use mir.Val.{toZ, ofZ}
 use Rattle.bits.specs.Bits.{bitsIn}
-use Rattle.bits.specs.InnerRaised.{lower}
+use Rattle.bits.specs.InnerRaised.{fromZero}
 use Rattle.samples.specs.InnerTrace.{before}
 use Rattle.tables.specs.declared.Structure.{Structure}
-use Rattle.compiled.specs.InnerForm.{Holding}
+use Rattle.compiled.specs.InnerForm.{CompiledOrNone}
 use Rattle.reading.proofs.Cursors.{length-left}
 use Rattle.traces.specs.Rebuilding.{rebuildFrom, rebuild}
-use Rattle.traces.specs.InnerTrace.{stepped, Stepped}
-use Rattle.traces.specs.declared.Step.{Step}
-use Rattle.traces.specs.declared.Step.the-variants.{Sample, Fault}
+use Rattle.traces.specs.InnerTrace.{traceFrom, SampledWithin}
+use Rattle.traces.specs.declared.Sampled.{Sampled}
+use Rattle.traces.specs.declared.Sampled.the-variants.{Sample, Fault}
 use Rattle.traces.proofs.Laws.{room-start, room-turn, room-fault, room-end, room-over}
 use Rattle.traces.proofs.rebuild.Statement.{statement}
 use Rattle.traces.proofs.rebuild.Tie as tie
@@ -24,9 +24,9 @@ use Rattle.traces.proofs.rebuild.Tie as tie
 abbrev Inv-loop : tie.InvT-loop
 Inv-loop s tab order room₀ n c₀ last₀ other₀ j₀ room c last other j =
     (j ≤ n) × (length room ≡ length room₀) × (c .at ≤ length s * 8) × (last < 65536) × (other < 65536)
-    × ((tables : List (List Structure)) → Holding tables tab
+    × ((tables : List (List Structure)) → CompiledOrNone tables tab
     → rebuild tables order n (bitsIn s)
-    ≡ before (take j room) (rebuildFrom tables order (n - j) j (lower 32768 last) (lower 32768 other) (c .table) (drop (c .at) (bitsIn s))))
+    ≡ before (take j room) (rebuildFrom tables order (n - j) j (fromZero 32768 last) (fromZero 32768 other) (c .table) (drop (c .at) (bitsIn s))))
 
 abbrev μ-loop : tie.MeasureT-loop
 μ-loop s tab order room₀ n c₀ last₀ other₀ j₀ room c last other j = n - j
@@ -59,10 +59,10 @@ step : (c : tie.After-next-sample Inv-loop μ-loop) →
     let a = c .before .before .before .before .before .before .args in
     let l = c .before .before .loop in
     let n = length (a .room .now) in
-    (r : Step) → c .next-sample .result ≡ r → (tables : List (List Structure)) → Holding tables (a .tab .now)
+    (r : Sampled) → c .next-sample .result ≡ r → (tables : List (List Structure)) → CompiledOrNone tables (a .tab .now)
     → rebuild tables (a .order) n (bitsIn (a .s .now))
     ≡ before (take (l .j) (l .room))
-    (stepped (bitsIn (a .s .now)) (λ x. rebuildFrom tables (a .order) (n - (l .j + 1)) (l .j + 1) x (lower 32768 (l .last))) r)
+    (traceFrom (bitsIn (a .s .now)) (λ x. rebuildFrom tables (a .order) (n - (l .j + 1)) (l .j + 1) x (fromZero 32768 (l .last))) r)
 step c r is tables held =
     let l = c .before .before .loop in
     let n = length (c .before .before .before .before .before .before .args .room .now) in
@@ -75,7 +75,7 @@ given : (c : tie.After-known-told Inv-loop μ-loop) →
     (c .before .x .given .0 .0 < 65536) × (c .before .x .given .0 .1 .0 .at ≤ bits)
 given c =
     let bits = length (c .before .before .before .before .before .before .before .before .before .args .s .now) * 8 in
-    subst (Stepped bits) (c .before .x .given .1) (c .before .before .before .next-sample .ensures .1)
+    subst (SampledWithin bits) (c .before .x .given .1) (c .before .before .before .next-sample .ensures .1)
 
 lowered-requires : tie.Need-lowered-requires Inv-loop μ-loop
 lowered-requires c κs = omega (arith, given c .0)
@@ -98,7 +98,7 @@ loop-again c =
     let a = told .before .before .before .before .before .before .args in
     let l = told .before .before .loop in
     let left = length (a .room .now) - (l .j + 1) in
-    let x = lower 32768 (c .before .before .x .given .0 .0) in
+    let x = fromZero 32768 (c .before .before .x .given .0 .0) in
     let d = c .before .before .x .given .0 .1 .0 in
     let same : toZ w16 (ofZ w16 (c .lowered .result)) ≡ c .lowered .result = search needs in
     rw (same, c .lowered .ensures) (
@@ -109,7 +109,7 @@ loop-again c =
       l .inv .3,
       λ tables held.
           room-turn
-          (rebuildFrom tables (a .order) left (l .j + 1) x (lower 32768 (l .last)) (d .table) (drop (d .at) (bitsIn (a .s .now))))
+          (rebuildFrom tables (a .order) left (l .j + 1) x (fromZero 32768 (l .last)) (d .table) (drop (d .at) (bitsIn (a .s .now))))
           (l .room)
           (l .j)
           x
@@ -131,7 +131,7 @@ returns c =
     let number = c .before .number .given .0 .0 in
     let is = c .before .number .given .1 in (
       λ tables held.
-          room-fault number (l .room) (subst (Stepped (length (a .s .now) * 8)) is (told .next-sample .ensures .1))
+          room-fault number (l .room) (subst (SampledWithin (length (a .s .now) * 8)) is (told .next-sample .ensures .1))
           ∙ sym (step told (Fault number) is tables held),
       l .inv .1,
     )
@@ -151,7 +151,7 @@ returns-2 c =
     let l = c .before .before .before .loop in
     let few = length-left (a .s .now) (l .c .at) in (
       λ tables held.
-          room-end tables (a .order) (length (a .room .now) - l .j) (l .j) (lower 32768 (l .last)) (lower 32768 (l .other)) (l .c .table)
+          room-end tables (a .order) (length (a .room .now) - l .j) (l .j) (fromZero 32768 (l .last)) (fromZero 32768 (l .other)) (l .c .table)
           (drop (l .c .at) (bitsIn (a .s .now)))
           (omega arith)
           (l .room)
@@ -170,7 +170,7 @@ returns-3 c =
     let l = c .before .before .before .loop in
     let many = length-left (a .s .now) (l .c .at) in (
       λ tables held.
-          room-over tables (a .order) (length (a .room .now) - l .j) (l .j) (lower 32768 (l .last)) (lower 32768 (l .other)) (l .c .table)
+          room-over tables (a .order) (length (a .room .now) - l .j) (l .j) (fromZero 32768 (l .last)) (fromZero 32768 (l .other)) (l .c .table)
           (drop (l .c .at) (bitsIn (a .s .now)))
           (omega arith)
           (l .room)

@@ -11,7 +11,7 @@ use borrow.Fn.PlainCycle.{Measures, is, falls, and}
 use lib.ListN.{length, drop}
 use Rattle.bits.specs.Bits.{bitsIn}
 use Rattle.tables.specs.declared.Structure.{Structure}
-use Rattle.compiled.specs.InnerForm.{Ready}
+use Rattle.compiled.specs.InnerForm.{Compiled}
 use Rattle.reading.specs.InnerCursor.{Seen, foundIn}
 use Rattle.reading.proofs.Laws.{read-none}
 use Rattle.reading.proofs.Cursors.{length-left, seen-left, found-none, FoundForm, found-form, read-form, read-on, onward-of-from}
@@ -88,7 +88,7 @@ module _ (t : ℕ) where
   -- the form that was found is that of the structure that is matched
   found : (c : burst-lts.After-f (burst-calls t) (burst-at t) burst.Post) →
       let a = c .before .before .before .before .before .before .before .args in
-      (tables : List (List Structure)) → Ready tables (a .tab .now)
+      (tables : List (List Structure)) → Compiled tables (a .tab .now)
       → FoundForm tables (a .self .table) (drop (a .self .at) (bitsIn (a .s .now))) (c .f .given .0 .0)
   found c tables ready =
       let a = c .before .before .before .before .before .before .before .args in

@@ -7,7 +7,7 @@ use borrow.Author.Needs.{needs}
 use lib.ListN.{length, drop}
 use Rattle.bits.specs.Bits.{bitsIn}
 use Rattle.tables.specs.declared.Structure.{Structure}
-use Rattle.compiled.specs.InnerForm.{Ready}
+use Rattle.compiled.specs.InnerForm.{Compiled}
 use Rattle.reading.specs.Reading.{readCoded}
 use Rattle.reading.specs.InnerCursor.{toldOf, Within, OnwardOf}
 use Rattle.reading.proofs.Cursors.{onward-from}
@@ -18,7 +18,7 @@ abbrev Inv-loop : tie.InvT-loop
 Inv-loop s tab c₀ c =
     Within (length s * 8) c
     × (c₀ .at ≤ c .at)
-    × ((tables : List (List Structure)) → Ready tables tab
+    × ((tables : List (List Structure)) → Compiled tables tab
     → readCoded tables (c .table) (drop (c .at) (bitsIn s)) ≡ readCoded tables (c₀ .table) (drop (c₀ .at) (bitsIn s)))
 
 abbrev μ-loop : tie.MeasureT-loop

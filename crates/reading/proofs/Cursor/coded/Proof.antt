@@ -9,7 +9,7 @@ use borrow.Author.Needs.{needs}
 use lib.ListN.{length, drop}
 use Rattle.bits.specs.Bits.{bitsIn}
 use Rattle.tables.specs.declared.Structure.{Structure}
-use Rattle.compiled.specs.InnerForm.{Ready}
+use Rattle.compiled.specs.InnerForm.{Compiled}
 use Rattle.reading.specs.Reading.{readCoded}
 use Rattle.reading.specs.InnerCursor.{Seen, foundIn, toldOf, Within, OnwardOf}
 use Rattle.reading.proofs.Laws.{read-none}
@@ -46,7 +46,7 @@ seen c =
 -- the form that was found is that of the structure that is matched
 found : (c : tie.After-first) →
     let a = c .before .before .before .before .before .before .before .args in
-    (tables : List (List Structure)) → Ready tables (a .tab .now)
+    (tables : List (List Structure)) → Compiled tables (a .tab .now)
     → FoundForm tables (a .self .table) (drop (a .self .at) (bitsIn (a .s .now))) (c .first .given .0 .0)
 found c tables ready =
     let a = c .before .before .before .before .before .before .before .args in
@@ -89,7 +89,7 @@ follow-requires c κs =
 followed : (c : tie.After-follow) →
     let a = c .before .before .before .before .before .before .before .before .before .before .before .args in
     let bits = bitsIn (a .s .now) in
-    (tables : List (List Structure)) → Ready tables (a .tab .now)
+    (tables : List (List Structure)) → Compiled tables (a .tab .now)
     → toldOf tables bits (c .follow .result) ≡ readCoded tables (a .self .table) (drop (a .self .at) bits)
 followed c tables ready =
     let a = c .before .before .before .before .before .before .before .before .before .before .before .args in

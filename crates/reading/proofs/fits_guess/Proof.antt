@@ -2,8 +2,8 @@
 use mathlib.Core.Path.{sym, _∙_}
 use borrow.Author.Needs.{needs}
 use Rattle.wire.proofs.Laws.{unlike}
-use Rattle.reading.proofs.points.Statement.{statement}
-use Rattle.reading.proofs.points.Tie as tie
+use Rattle.reading.proofs.fits_guess.Statement.{statement}
+use Rattle.reading.proofs.fits_guess.Tie as tie
 
 returns : tie.Need-returns
 returns c d bs e seen h = unlike cc
@@ -14,5 +14,5 @@ begins-with-requires c κs = search needs
 returns-2 : tie.Need-returns-2
 returns-2 c d bs e seen h = sym (c .begins-with .ensures d bs e seen) ∙ h
 
-pub points-spec : {M : Type 1} → statement M
-points-spec = tie.close (tie.spec returns begins-with-requires returns-2)
+pub fits-guess-spec : {M : Type 1} → statement M
+fits-guess-spec = tie.close (tie.spec returns begins-with-requires returns-2)
