@@ -185,10 +185,12 @@ pub enum Command {
     /// how many files were refused with each number.
     ///
     /// Of a folder every regular file is taken, whatever its name is, and every folder
-    /// in it, in the order of their names. A link is followed if it is given as PATH,
-    /// and passed over in a folder. Lines come in the order of the files, however many
-    /// are checked at once. As JSON there is an object in each line, and the last one
-    /// is the summary.
+    /// in it, in the order of their names. A link is followed if it is given as PATH.
+    /// In a folder links, FIFOs, sockets and devices are passed over, and the summary
+    /// counts them. If there is no file at all, as in a folder that is not mounted, the
+    /// exit status is 2. Lines come in the order of the files, however many are checked
+    /// at once. As JSON there is an object in each line, and the last one is the
+    /// summary.
     #[command(verbatim_doc_comment, after_help = STATUS)]
     Check {
         /// The records, and folders of records; - is standard input
@@ -197,6 +199,9 @@ pub enum Command {
         /// Only those that are refused; the summary is of all
         #[arg(long)]
         refused: bool,
+        /// Let it pass that no file is found
+        #[arg(long)]
+        allow_empty: bool,
         /// As JSON, an object in each line
         #[arg(long)]
         json: bool,

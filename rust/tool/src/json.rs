@@ -387,7 +387,15 @@ struct Counts {
     accepted: usize,
     refused: usize,
     not_read: usize,
+    passed_over: PassedOver,
     by_number: BTreeMap<u8, usize>,
+}
+
+/// What was passed over in folders.
+#[derive(Serialize)]
+struct PassedOver {
+    links: usize,
+    special_files: usize,
 }
 
 impl Summary {
@@ -399,6 +407,10 @@ impl Summary {
                 accepted: tally.accepted,
                 refused: tally.refused(),
                 not_read: tally.not_read,
+                passed_over: PassedOver {
+                    links: tally.links,
+                    special_files: tally.special_files,
+                },
                 by_number: tally.by_number().collect(),
             },
             note: (tally.refused() > 0).then_some(refused::NOTE),

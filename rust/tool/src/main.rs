@@ -75,9 +75,17 @@ fn run(command: Command, output: &mut Output) -> Status {
         Command::Check {
             paths,
             refused,
+            allow_empty,
             json,
             jobs,
-        } => commands::check::run(&paths, Asked { refused, json }, jobs, output),
+        } => {
+            let asked = Asked {
+                refused,
+                json,
+                allow_empty,
+            };
+            commands::check::run(&paths, asked, jobs, output)
+        }
         Command::Report { file, json } => commands::report::run(&file, json, output),
         Command::Pack { file, out, force } => commands::pack::run(&file, &out, force, output),
         Command::Write { job, out, force } => commands::write::run(&job, &out, force, output),

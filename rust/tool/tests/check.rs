@@ -142,7 +142,8 @@ fn the_answer_does_not_depend_on_the_jobs() {
     let names: Vec<String> = (0..600).map(|n| format!("./{n:04}.scp")).collect();
     assert_eq!(ran.names(), names);
     let summary = ran.lines().pop().unwrap();
-    let counts = json!({"files": 600, "accepted": 360, "refused": 240, "not_read": 0, "by_number": {"2": 120, "13": 120}});
+    let counts = json!({"files": 600, "accepted": 360, "refused": 240, "not_read": 0,
+        "passed_over": {"links": 0, "special_files": 0}, "by_number": {"2": 120, "13": 120}});
     assert_eq!(summary["summary"], counts);
     assert!(summary["note"]
         .as_str()
@@ -183,10 +184,47 @@ fn a_folder_is_its_regular_files_in_order() {
     // paths come in the order in which they are given, as often as they are
     let ran = run_in(&folder, &["check", "--json", "z.txt", "b/c", "a", "z.txt"]);
     assert_eq!(ran.names(), ["z.txt", "b/c/.hidden", "a", "z.txt"]);
-    fs::create_dir(folder.path("empty")).unwrap();
-    let ran = run_in(&folder, &["check", "empty"]);
-    let text = "0 files: 0 accepted, 0 refused, 0 not read\n";
-    assert_eq!((ran.status, ran.out.as_str()), (0, text));
+}
+
+/// A folder with no file in it may be one that is not mounted: that is not taken for a good answer.
+#[test]
+fn no_file_is_no_good_answer() {
+    let folder = Folder::new("nothing");
+    fs::create_dir_all(folder.path("empty/inner")).unwrap();
+    fs::create_dir(folder.path("links")).unwrap();
+    symlink("nowhere", folder.path("links/link")).unwrap();
+    let none = "0 files: 0 accepted, 0 refused, 0 not read";
+    for (name, text) in [
+        ("empty", format!("{none}\n")),
+        ("links", format!("{none}; passed over: 1 link\n")),
+    ] {
+        let ran = run_in(&folder, &["check", name]);
+        assert_eq!((ran.status, &ran.out), (2, &text));
+        let words = "no file was found to check; if that is right, say --allow-empty";
+        assert_eq!(ran.err, format!("tigmavresh: {words}\n"));
+        let ran = run_in(&folder, &["check", "--allow-empty", name]);
+        assert_eq!((ran.status, &ran.out, ran.err.as_str()), (0, &text, ""));
+        let ran = run_in(&folder, &["check", "--json", name]);
+        assert_eq!(ran.status, 2);
+    }
+    // a file that cannot be read is not let pass
+    let ran = run_in(&folder, &["check", "--allow-empty", "empty", "none"]);
+    assert_eq!(ran.status, 2);
+}
+
+/// Links, FIFOs and the like that a folder has are passed over and counted.
+#[test]
+fn what_is_passed_over_is_counted() {
+    let folder = tree();
+    let ran = run_in(&folder, &["check", "."]);
+    let text = "6 files: 6 accepted, 0 refused, 0 not read; passed over: 4 links, 1 special file";
+    assert_eq!(ran.out.lines().last(), Some(text));
+    let ran = run_in(&folder, &["check", ".", "--json"]);
+    let summary = ran.lines().pop().unwrap();
+    let passed_over = json!({"links": 4, "special_files": 1});
+    assert_eq!(summary["summary"]["passed_over"], passed_over);
+    let ran = run_in(&folder, &["check", "link", "a"]);
+    assert!(!ran.out.contains("passed over"), "{}", ran.out);
 }
 
 #[test]

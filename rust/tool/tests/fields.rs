@@ -55,7 +55,8 @@ fn pointers_are_told_as_they_are_stored() {
     ] {
         assert!(pointers.contains(&told), "{told}");
     }
-    let counts = json!({"files": 1, "accepted": 1, "refused": 0, "not_read": 0, "by_number": {}});
+    let counts = json!({"files": 1, "accepted": 1, "refused": 0, "not_read": 0,
+        "passed_over": {"links": 0, "special_files": 0}, "by_number": {}});
     assert_eq!(lines[1..], [json!({"summary": counts})]);
 }
 
@@ -87,8 +88,8 @@ fn every_file_has_a_line() {
     );
     assert_eq!(lines[2]["pointers"].as_array().unwrap().len(), 12);
     assert!(lines[3]["refusal"].is_null());
-    let counts =
-        json!({"files": 4, "accepted": 2, "refused": 1, "not_read": 1, "by_number": {"2": 1}});
+    let counts = json!({"files": 4, "accepted": 2, "refused": 1, "not_read": 1,
+        "passed_over": {"links": 0, "special_files": 0}, "by_number": {"2": 1}});
     assert_eq!(lines[4]["summary"], counts);
     assert!(lines[4]["note"].as_str().unwrap().contains("own look"));
     assert_eq!(lines.len(), 5);

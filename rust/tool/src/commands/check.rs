@@ -24,13 +24,18 @@ const AT_ONCE: usize = 512;
 const COUNTING: &str = "{spinner} files so far: {pos}";
 const BAR: &str = "{bar:40} {pos} of {len} files, {eta} left";
 
-/// What is to be shown.
+/// What is said where no file was found, as with a folder that is not mounted.
+const EMPTY: &str = "no file was found to check; if that is right, say --allow-empty";
+
+/// What is asked for.
 #[derive(Clone, Copy)]
 pub struct Asked {
-    /// Only what is refused.
+    /// Show only what is refused.
     pub refused: bool,
-    /// As JSON.
+    /// Show it as JSON.
     pub json: bool,
+    /// Let it pass that no file is found.
+    pub allow_empty: bool,
 }
 
 /// A file that was checked, or could not be.
@@ -61,7 +66,7 @@ pub fn run(paths: &[PathBuf], asked: Asked, jobs: Option<u16>, output: &mut Outp
     let mut tally = Tally::default();
     let mut files = files::listed(paths);
     loop {
-        let some: Vec<Listed> = files.by_ref().take(AT_ONCE).collect();
+        let some = next_files(&mut files, &mut tally);
         if some.is_empty() {
             break;
         }
@@ -76,23 +81,45 @@ pub fn run(paths: &[PathBuf], asked: Asked, jobs: Option<u16>, output: &mut Outp
     }
     bar.finish_and_clear();
     conclude(&tally, asked, output);
+    if tally.files() == 0 && !asked.allow_empty {
+        output.remark(&[EMPTY.to_string()]);
+        return Status::NotDone;
+    }
     tally.status()
+}
+
+/// The next files to be checked. Whatever is passed over on the way is counted.
+fn next_files(files: &mut impl Iterator<Item = Listed>, tally: &mut Tally) -> Vec<Listed> {
+    let count = |listed: &Listed| {
+        match listed {
+            Listed::Link => tally.links += 1,
+            Listed::Special => tally.special_files += 1,
+            Listed::File(_) | Listed::Unread(..) => {}
+        }
+        listed.is_counted()
+    };
+    files.filter(count).take(AT_ONCE).collect()
 }
 
 /// The bar that shows how far the work is, on a terminal and for more than one file; else one that is never drawn. A thread
 /// counts the files meanwhile, and until it has there is no total.
 fn bar(paths: &[PathBuf]) -> ProgressBar {
     let bar = ProgressBar::new_spinner();
-    if bar.is_hidden() || files::listed(paths).take(2).count() < 2 {
+    if bar.is_hidden() || counted(paths).take(2).count() < 2 {
         return ProgressBar::hidden();
     }
     set_style(&bar, COUNTING);
-    let (counted, paths) = (bar.clone(), paths.to_vec());
+    let (total, paths) = (bar.clone(), paths.to_vec());
     thread::spawn(move || {
-        counted.set_length(files::listed(&paths).count() as u64);
-        set_style(&counted, BAR);
+        total.set_length(counted(&paths).count() as u64);
+        set_style(&total, BAR);
     });
     bar
+}
+
+/// The files of these paths, without what is passed over.
+fn counted(paths: &[PathBuf]) -> impl Iterator<Item = Listed> + '_ {
+    files::listed(paths).filter(Listed::is_counted)
 }
 
 /// Makes a bar look like this.
@@ -105,22 +132,18 @@ fn set_style(bar: &ProgressBar, template: &str) {
 /// Checks some files, side by side; the answers are in their order.
 fn check_all(files: Vec<Listed>, pool: &ThreadPool, bar: &ProgressBar) -> Vec<Checked> {
     let check = |room: &mut Room, file: Listed| {
-        let checked = match file {
-            Ok(file) => Checked {
-                outcome: check(&file, room),
-                file,
-            },
-            Err((file, error)) => Checked {
-                outcome: Err(error),
-                file,
-            },
+        let (file, outcome) = match file {
+            Listed::File(file) => (file.clone(), check(&file, room)),
+            Listed::Unread(file, error) => (file, Err(error)),
+            Listed::Link | Listed::Special => return None,
         };
         bar.inc(1);
-        checked
+        Some(Checked { file, outcome })
     };
     pool.install(|| {
         let files = files.into_par_iter();
-        files.map_init(Room::default, check).collect()
+        let checked = files.map_init(Room::default, check);
+        checked.flatten_iter().collect()
     })
 }
 
