@@ -6,6 +6,7 @@ use std::io::{self, Read};
 use std::mem;
 use std::path::Path;
 
+use crate::json;
 use crate::output::{parted, Output};
 
 /// The name that stands for standard input.
@@ -75,10 +76,15 @@ pub fn read(path: &Path) -> io::Result<Input> {
     read_from(file, metadata.is_file().then_some(metadata.len()))
 }
 
-/// Reads a file, or standard input; if it cannot be read, that is complained of.
-pub fn read_or_complain(path: &Path, output: &mut Output) -> Option<Input> {
-    let read = read(path);
-    read.map_err(|error| output.complain(path, &error)).ok()
+/// Reads a file, or standard input; if it cannot be read, that is complained of, and is said in JSON where that is asked for.
+pub fn read_or_complain(path: &Path, json: bool, output: &mut Output) -> Option<Input> {
+    let complain = |error| {
+        if json {
+            output.line(json::text(&json::unread(path, &error)));
+        }
+        output.complain(path, &error);
+    };
+    read(path).map_err(complain).ok()
 }
 
 /// Reads one byte more than the longest record has, at most: that is enough to see it refused. `known` is the length

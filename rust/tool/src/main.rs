@@ -7,6 +7,7 @@
 mod cli;
 mod closed;
 mod commands;
+mod escape;
 mod explain;
 mod files;
 mod input;

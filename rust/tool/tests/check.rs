@@ -8,7 +8,9 @@ use std::process::Command;
 
 use common::folder::Folder;
 use common::record::{put, seal};
-use common::{run, run_by_shell, run_in, run_on_terminal, run_with_input, sample, samples, Ran};
+use common::{
+    run, run_by_shell, run_in, run_on_terminal, run_with_input, sample, samples, Ran, NOTE,
+};
 use serde_json::{json, Value};
 
 /// The samples that are accepted, and how many leads are read.
@@ -47,7 +49,7 @@ fn each_sample_is_checked() {
         assert_eq!((ran.status, ran.err.as_str()), (0, ""), "{name}");
         let shown = &ran.lines()[0];
         let bytes = sample(name).len();
-        let expected = json!({"file": name, "bytes": bytes, "refusal": null, "lead_count": leads});
+        let expected = json!({"file": name, "bytes": bytes, "verdict": "accepted", "refusal": null, "lead_count": leads});
         assert_eq!(*shown, expected);
     }
     for number in REFUSED {
@@ -55,12 +57,12 @@ fn each_sample_is_checked() {
         let ran = run(&["check", &name, "--json"]);
         assert_eq!((ran.status, ran.err.as_str()), (1, ""), "{name}");
         let shown = &ran.lines()[0];
-        assert_eq!(shown["refusal"]["number"], number);
+        assert_eq!(shown["refusal"], number);
         assert!(shown.get("lead_count").is_none());
         // 12 to 14 are of one lead, here the second
         let lead = if number > 10 { json!(2) } else { json!(null) };
         assert_eq!(shown["lead"], lead, "{name}");
-        assert_eq!(shown["refusal"]["found"].as_array().unwrap().len(), 1);
+        assert_eq!(shown["found"].as_array().unwrap().len(), 1);
     }
 }
 
@@ -81,7 +83,7 @@ found: Section 6, lead 2: no value for sample 13: the stream ends inside the cod
 refused-1.scp: refused, number 1 (352 bytes); rule broken: a record has 142 to 1,048,576 bytes, as many as its size field says; \
 found: the length is 352 bytes, and the size field says 372
 
-The refusal is the proved library's; what was found is the tool's own look at the bytes, to explain it.
+The proved library decided; the explanation is not proved.
 
 4 files: 2 accepted, 2 refused, 0 not read
   Number  Files  Rule broken
@@ -109,7 +111,7 @@ fn tables_are_judged_where_there_is_no_lead() {
         let ran = run(&["check", &file, "--json"]);
         assert_eq!(ran.status, status, "{}", ran.out);
         let number = if status == 0 { json!(null) } else { json!(7) };
-        assert_eq!(ran.lines()[0]["refusal"]["number"], number);
+        assert_eq!(ran.lines()[0]["refusal"], number);
         assert_eq!(run(&["report", &file]).status, status);
     }
 }
@@ -142,13 +144,10 @@ fn the_answer_does_not_depend_on_the_jobs() {
     let names: Vec<String> = (0..600).map(|n| format!("./{n:04}.scp")).collect();
     assert_eq!(ran.names(), names);
     let summary = ran.lines().pop().unwrap();
-    let counts = json!({"files": 600, "accepted": 360, "refused": 240, "not_read": 0,
+    let counts = json!({"files": 600, "accepted": 360, "refused": 240, "unread": 0,
         "passed_over": {"links": 0, "special_files": 0}, "by_number": {"2": 120, "13": 120}});
     assert_eq!(summary["summary"], counts);
-    assert!(summary["note"]
-        .as_str()
-        .unwrap()
-        .contains("the tool's own look"));
+    assert_eq!(summary["note"], NOTE);
 }
 
 /// A folder with folders, links and a pipe in it.
@@ -256,12 +255,13 @@ fn what_cannot_be_read_does_not_stop_the_others() {
         format!("tigmavresh: none.scp: {reason}\ntigmavresh: none: {reason}\n")
     );
     let lines = ran.lines();
-    assert_eq!(lines[0], json!({"file": "none.scp", "error": reason}));
+    let unread = json!({"file": "none.scp", "verdict": "unread", "refusal": null, "error": reason});
+    assert_eq!(lines[0], unread);
     assert_eq!(
         ran.names(),
         ["none.scp", "007.scp", "none", "refused-2.scp"]
     );
-    assert_eq!(lines[4]["summary"]["not_read"], 2);
+    assert_eq!(lines[4]["summary"]["unread"], 2);
     let ran = run(&words[..5]);
     assert_eq!(ran.status, 2);
     assert!(ran.out.starts_with("007.scp: accepted"), "{}", ran.out);
@@ -281,7 +281,7 @@ fn standard_input_is_one_of_the_files() {
     assert_eq!(ran.err, "tigmavresh: standard input: it was read already\n");
     let lines = ran.lines();
     assert_eq!(ran.names(), ["7.scp", "-", "007.scp", "-"]);
-    assert_eq!(lines[1]["refusal"]["number"], 14);
+    assert_eq!(lines[1]["refusal"], 14);
     assert_eq!(lines[3]["error"], "it was read already");
 }
 

@@ -127,7 +127,7 @@ fn a_huge_file_is_not_read_whole() {
         "huge.scp: refused, number 1 (4,294,967,296 bytes); rule broken: ",
         "found: the length is 4,294,967,296 bytes, over 1,048,576\n",
         "empty.scp: refused, number 1 (0 bytes); rule broken: ",
-        "found: the length is 0 bytes, under 142\n",
+        "; the length is 0 bytes, under 142\n",
     ] {
         assert!(ran.out.contains(line), "{line}\n{}", ran.out);
     }

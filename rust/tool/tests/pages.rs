@@ -121,7 +121,7 @@ fn the_manual_has_every_command() {
             .split_whitespace()
             .filter_map(|word| word.strip_prefix("--"));
         for option in words {
-            let option = option.trim_end_matches([',', '.']);
+            let option = option.trim_end_matches([',', '.']).replace('-', "\\-");
             assert!(
                 ran.out.contains(&format!("\\-\\-{option}")),
                 "{command}: {option}"

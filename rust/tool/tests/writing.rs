@@ -8,7 +8,7 @@ use std::process::{Command, Stdio};
 
 use common::folder::Folder;
 use common::record::{put, seal, section};
-use common::{run, run_by_shell, run_on_terminal, sample, samples, tool, Ran};
+use common::{run, run_by_shell, run_on_terminal, sample, samples, tool, Ran, NOTE};
 use judge::make::{self, Rng};
 use judge::Writing;
 
@@ -217,7 +217,7 @@ fn a_refused_record_is_not_packed() {
     let folder = Folder::new("not-packed");
     let out = folder.path("out.scp");
     for (name, number) in [
-        ("007.scp", 10),
+        ("refused-10.scp", 10),
         ("refused-2.scp", 2),
         ("refused-7.scp", 7),
         ("refused-9.scp", 9),
@@ -228,7 +228,7 @@ fn a_refused_record_is_not_packed() {
         assert_eq!((ran.status, ran.err.as_str()), (1, ""), "{name}");
         let line = format!("{name}: refused, number {number} (");
         assert!(ran.out.starts_with(&line), "{}", ran.out);
-        assert!(ran.out.contains("the tool's own look at the bytes"));
+        assert!(ran.out.contains(NOTE));
     }
     let ran = run(&["pack", "none.scp", &out]);
     assert_eq!(ran.status, 2);
@@ -769,7 +769,7 @@ fn assert_refused(folder: &Folder, ran: &Ran, number: u8, found: &str) {
     let line = format!("{}: refused, number {number}", folder.path("job.json"));
     assert_eq!(ran.first_line(), line);
     assert!(ran.out.contains(found), "{found}\n{}", ran.out);
-    assert!(ran.out.contains("the tool's own look at the job"));
+    assert!(ran.out.contains(NOTE));
     assert_eq!(folder.names(), ["job.csv", "job.json"]);
 }
 

@@ -11,8 +11,8 @@ use rayon::{ThreadPool, ThreadPoolBuilder};
 use crate::files::{self, Listed};
 use crate::input::{self, Size};
 use crate::json;
-use crate::output::{reason, shown, Output};
-use crate::refused;
+use crate::output::{shown, Output};
+use crate::refused::{self, Refused};
 use crate::status::Status;
 use crate::tally::Tally;
 use crate::verdict::{Room, Verdict};
@@ -48,8 +48,8 @@ struct Checked {
 struct Judged {
     size: Size,
     verdict: Verdict,
-    /// Of a refusal the first thing found.
-    found: Option<String>,
+    /// Why it is refused, if it is.
+    refused: Option<Refused>,
 }
 
 /// Checks all files of these paths, so many at a time; the worst of them is the status.
@@ -151,17 +151,17 @@ fn check_all(files: Vec<Listed>, pool: &ThreadPool, bar: &ProgressBar) -> Vec<Ch
 fn check(file: &Path, room: &mut Room) -> io::Result<Judged> {
     let input = input::read(file)?;
     let verdict = Verdict::of(&input.bytes, room);
-    let found = match verdict {
+    let refused = match verdict {
         Verdict::Accepted { .. } => None,
         Verdict::Refused { refusal, lead } => {
-            let found = refused::found(&input, lead.unwrap_or(1), refusal);
-            found.into_iter().next()
+            let refused = Refused::of(&input, lead.unwrap_or(1), refusal);
+            Some(refused.in_short(&input))
         }
     };
     Ok(Judged {
         size: input.size,
         verdict,
-        found,
+        refused,
     })
 }
 
@@ -182,7 +182,7 @@ fn show(checked: &Checked, asked: Asked, output: &mut Output) {
     match &checked.outcome {
         Err(error) => {
             if asked.json {
-                output.line(json::line(&json::Unread::new(file, reason(error))));
+                output.line(json::line(&json::unread(file, error)));
             }
             output.complain(file, error);
         }
@@ -195,24 +195,21 @@ fn show(checked: &Checked, asked: Asked, output: &mut Output) {
 /// A record's line of text.
 fn as_text(file: &Path, judged: &Judged) -> String {
     let heading = format!("{}: {}", shown(file), judged.verdict.told(judged.size));
-    match (judged.verdict, &judged.found) {
-        (Verdict::Refused { refusal, .. }, Some(found)) => {
-            let (broken, rule) = (refused::BROKEN, refusal.words());
+    match &judged.refused {
+        Some(refused) => {
+            let (broken, rule) = (refused::BROKEN, refused.refusal.words());
+            let found = refused.found.join("; ");
             format!("{heading}; {broken}: {rule}; found: {found}")
         }
-        _ => heading,
+        None => heading,
     }
 }
 
 /// A record's line of JSON.
 fn as_json(file: &Path, judged: &Judged) -> String {
-    let found = judged.found.iter().cloned().collect();
-    json::line(&json::Checked::new(
-        file,
-        judged.size,
-        judged.verdict,
-        found,
-    ))
+    let about = json::About::judged(file, judged.size, judged.refused.as_ref());
+    let about = about.of_lead(judged.verdict.lead());
+    json::line(&about.holding(judged.verdict.lead_count()))
 }
 
 /// Shows how many files were accepted, refused with each number, and not read.

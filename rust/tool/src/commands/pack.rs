@@ -11,7 +11,7 @@ use crate::input::{read_or_complain, Input};
 use crate::making::{Making, DEFAULT_TABLE, HEADER};
 use crate::names;
 use crate::output::{parted, shown, shown_target, Output};
-use crate::refused;
+use crate::refused::Refused;
 use crate::status::Status;
 use crate::store::Target;
 use crate::table::{self, numbers, words, Column};
@@ -34,7 +34,7 @@ pub fn run(file: &Path, out: &Path, force: bool, output: &mut Output) -> Status 
     let Some(target) = Target::or_complain(out, force, output) else {
         return Status::NotDone;
     };
-    let Some(input) = read_or_complain(file, output) else {
+    let Some(input) = read_or_complain(file, false, output) else {
         return Status::NotDone;
     };
     let parsed = match Parsed::of(&input.bytes) {
@@ -76,11 +76,8 @@ fn refuse(
     target: &Target,
     output: &mut Output,
 ) -> Status {
-    let mut lines = vec![refused::heading(file, input, refusal)];
-    lines.extend(refused::lines(input, place, refusal));
-    lines.push(String::new());
-    lines.push(refused::NOTE.to_string());
-    say(&lines, target, output);
+    let refused = Refused::of(input, place, refusal);
+    say(&refused.text(file, input), target, output);
     Status::Refused
 }
 
@@ -130,11 +127,11 @@ struct Parsed<'a> {
 }
 
 /// A refusal where the lead at a place was asked for.
-type Refused = (usize, Refusal);
+type Placed = (usize, Refusal);
 
 impl<'a> Parsed<'a> {
     /// Takes a record apart, if it has leads that the rules allow.
-    fn of(record: &'a [u8]) -> Result<Parsed<'a>, Refused> {
+    fn of(record: &'a [u8]) -> Result<Parsed<'a>, Placed> {
         let whole = |refusal| (1, refusal);
         let pointers = scp::open(record).map_err(whole)?;
         let entries = scp::leads(record).map_err(whole)?;
@@ -279,7 +276,7 @@ impl<'a> Parsed<'a> {
     }
 
     /// What the packed record is made of: all leads read.
-    fn making(&self) -> Result<Making, Refused> {
+    fn making(&self) -> Result<Making, Placed> {
         let entry = self.entries[0];
         let mut making = Making {
             section1: self.used(1).to_vec(),
@@ -300,7 +297,7 @@ impl<'a> Parsed<'a> {
     }
 
     /// What the packed record is made of, and the record.
-    fn packed(&self) -> Result<(Making, Vec<u8>), Refused> {
+    fn packed(&self) -> Result<(Making, Vec<u8>), Placed> {
         let making = self.making()?;
         let packed = scp::written(&making.job()).map_err(|refusal| (1, refusal))?;
         Ok((making, packed))
@@ -308,7 +305,7 @@ impl<'a> Parsed<'a> {
 
     /// Whether a packed record has all that this one has: Sections 1 to 3 bit for bit, and the heads of the others.
     fn is_kept_in(&self, packed: &[u8]) -> Result<(), String> {
-        let refused = |(_, refusal): Refused| format!("it is refused: {refusal}");
+        let refused = |(_, refusal): Placed| format!("it is refused: {refusal}");
         let packed = Parsed::of(packed).map_err(refused)?;
         let kept = |id, part: Range<usize>| self.part(id, &part) == packed.part(id, &part);
         let holds = [1, 2, 3].into_iter().all(|id| kept(id, 0..usize::MAX))

@@ -53,7 +53,7 @@ fn refuse(file: &Path, making: &Making, refusal: Refusal, target: &Target, outpu
         &explain::found_in_job(making, refusal),
     ));
     lines.push(String::new());
-    lines.push(refused::JOB_NOTE.to_string());
+    lines.push(refused::NOTE.to_string());
     say(&lines, target, output);
 }
 
