@@ -29,12 +29,12 @@ impl Listed {
 
 /// The files of these paths, one after another, those of a folder in the order of their names. They are looked up as they are
 /// asked for, so that a great many take no room.
-pub fn listed(paths: &[PathBuf]) -> impl Iterator<Item = Listed> + '_ {
+pub fn listed(paths: Vec<PathBuf>) -> impl Iterator<Item = Listed> + Send {
     let mut reader = Reader::default();
-    paths.iter().flat_map(move |path| {
-        let itself = match reader.claim(path) {
+    paths.into_iter().flat_map(move |path| {
+        let itself = match reader.claim(&path) {
             Err(error) => Some(Listed::Unread(path.clone(), error)),
-            Ok(()) if input::is_standard(path) => Some(Listed::File(path.clone())),
+            Ok(()) if input::is_standard(&path) => Some(Listed::File(path.clone())),
             Ok(()) => None,
         };
         let walked = itself.is_none().then(|| walked(path));
@@ -44,13 +44,13 @@ pub fn listed(paths: &[PathBuf]) -> impl Iterator<Item = Listed> + '_ {
 
 /// A path that is no folder, or all that is in it. A link is followed here, where it was asked for, and nowhere in a folder:
 /// so no walk goes in circles.
-fn walked(path: &Path) -> impl Iterator<Item = Listed> + '_ {
-    let mut entries = WalkDir::new(path).sort_by_file_name().into_iter();
+fn walked(path: PathBuf) -> impl Iterator<Item = Listed> + Send {
+    let mut entries = WalkDir::new(&path).sort_by_file_name().into_iter();
     iter::from_fn(move || loop {
         match entries.next()? {
             Ok(entry) if is_folder(&entry) => {}
             Ok(entry) => return Some(listed_entry(entry)),
-            Err(error) => return Some(unread(path, error)),
+            Err(error) => return Some(unread(&path, error)),
         }
     })
 }

@@ -299,6 +299,7 @@ struct Counts {
     accepted: usize,
     refused: usize,
     unread: usize,
+    interrupted: bool,
     passed_over: PassedOver,
     by_number: BTreeMap<u8, usize>,
 }
@@ -319,6 +320,7 @@ impl Summary {
                 accepted: tally.accepted,
                 refused: tally.refused(),
                 unread: tally.not_read,
+                interrupted: tally.is_interrupted,
                 passed_over: PassedOver {
                     links: tally.links,
                     special_files: tally.special_files,

@@ -19,6 +19,8 @@ pub struct Tally {
     pub links: usize,
     /// FIFOs, sockets and devices in folders, which are not read.
     pub special_files: usize,
+    /// Whether the user ended it before all files were counted.
+    pub is_interrupted: bool,
     by_refusal: BTreeMap<Refusal, usize>,
 }
 
@@ -47,6 +49,7 @@ impl Tally {
     /// The status of the worst file.
     pub fn status(&self) -> Status {
         match (self.not_read, self.refused()) {
+            _ if self.is_interrupted => Status::Interrupted,
             (0, 0) => Status::Accepted,
             (0, _) => Status::Refused,
             _ => Status::NotDone,
@@ -72,6 +75,9 @@ impl fmt::Display for Tally {
         let (files, refused) = (self.files(), self.refused());
         let (accepted, not_read) = (self.accepted, self.not_read);
         let files = counted(files, "file");
+        if self.is_interrupted {
+            write!(f, "interrupted, so far ")?;
+        }
         write!(
             f,
             "{files}: {accepted} accepted, {refused} refused, {not_read} not read"

@@ -3,13 +3,17 @@
 mod common;
 
 use std::fs;
+use std::io::{BufRead, BufReader, Read};
 use std::os::unix::fs::symlink;
-use std::process::Command;
+use std::process::{Child, Command, Stdio};
+use std::sync::mpsc::{self, Receiver};
+use std::thread;
+use std::time::Duration;
 
 use common::folder::Folder;
 use common::record::{put, seal};
 use common::{
-    run, run_by_shell, run_in, run_on_terminal, run_with_input, sample, samples, Ran, NOTE,
+    run, run_by_shell, run_in, run_on_terminal, run_with_input, sample, samples, tool, Ran, NOTE,
 };
 use serde_json::{json, Value};
 
@@ -144,7 +148,7 @@ fn the_answer_does_not_depend_on_the_jobs() {
     let names: Vec<String> = (0..600).map(|n| format!("./{n:04}.scp")).collect();
     assert_eq!(ran.names(), names);
     let summary = ran.lines().pop().unwrap();
-    let counts = json!({"files": 600, "accepted": 360, "refused": 240, "unread": 0,
+    let counts = json!({"files": 600, "accepted": 360, "refused": 240, "unread": 0, "interrupted": false,
         "passed_over": {"links": 0, "special_files": 0}, "by_number": {"2": 120, "13": 120}});
     assert_eq!(summary["summary"], counts);
     assert_eq!(summary["note"], NOTE);
@@ -368,4 +372,106 @@ fn a_closed_pipe_is_quiet() {
         assert_eq!(ran.out, "7.scp: accepted (194 bytes; no lead)\n");
         assert_eq!(ran.err, status);
     }
+}
+
+/// So long a line is waited for that is to come at once.
+const PATIENCE: Duration = Duration::from_secs(60);
+
+/// The tool at work on files of which one, a pipe that nobody writes to, is never read to its end.
+struct Waiting {
+    tool: Child,
+    lines: Receiver<String>,
+}
+
+impl Waiting {
+    fn start(folder: &Folder, words: &[&str]) -> Waiting {
+        let pipe = Command::new("mkfifo").arg(folder.path("pipe")).status();
+        assert!(pipe.unwrap().success());
+        let mut command = tool();
+        command.current_dir(&folder.0).arg("check").args(words);
+        let mut tool = command
+            .stdout(Stdio::piped())
+            .stderr(Stdio::piped())
+            .spawn()
+            .unwrap();
+        let output = BufReader::new(tool.stdout.take().unwrap());
+        let (to, lines) = mpsc::channel();
+        thread::spawn(move || output.lines().try_for_each(|line| to.send(line.unwrap())));
+        Waiting { tool, lines }
+    }
+
+    /// The next line.
+    fn line(&self) -> String {
+        self.lines.recv_timeout(PATIENCE).expect("a line at once")
+    }
+
+    fn send(&self, signal: &str) {
+        let sent = Command::new("kill")
+            .args([signal, &self.tool.id().to_string()])
+            .status();
+        assert!(sent.unwrap().success());
+    }
+
+    /// The lines that are left, the exit status and what was complained of.
+    fn end(mut self) -> (Vec<String>, Option<i32>, String) {
+        let lines = std::iter::from_fn(|| self.lines.recv_timeout(PATIENCE).ok()).collect();
+        let mut complaints = String::new();
+        self.tool
+            .stderr
+            .take()
+            .unwrap()
+            .read_to_string(&mut complaints)
+            .unwrap();
+        (lines, self.tool.wait().unwrap().code(), complaints)
+    }
+}
+
+impl Drop for Waiting {
+    /// Nothing goes on after a test that failed.
+    fn drop(&mut self) {
+        let _ = self.tool.kill();
+    }
+}
+
+/// A line does not wait for the files after it, and an interruption ends with the summary of the files so far.
+#[test]
+fn an_interruption_shows_the_summary() {
+    for (jobs, form) in [("1", &[][..]), ("3", &[]), ("2", &["--json"])] {
+        let folder = Folder::new(&format!("interrupted-{jobs}"));
+        for name in ["a.scp", "b.scp", "z.scp"] {
+            folder.file(name, &sample("7.scp"));
+        }
+        folder.file("b.scp", &sample("refused-2.scp"));
+        let words = [&["a.scp", "b.scp", "pipe", "z.scp", "--jobs", jobs], form].concat();
+        let waiting = Waiting::start(&folder, &words);
+        assert!(waiting.line().contains("a.scp"));
+        assert!(waiting.line().contains("b.scp"));
+        waiting.send("-INT");
+        let (lines, status, complaints) = waiting.end();
+        assert_eq!((status, complaints.as_str()), (Some(130), ""));
+        let last = lines.join("\n");
+        assert!(!last.contains("z.scp"), "{last}");
+        match form.is_empty() {
+            true => {
+                let text = "interrupted, so far 2 files: 1 accepted, 1 refused, 0 not read";
+                assert!(lines.iter().any(|line| line == text), "{last}");
+            }
+            false => {
+                let summary: Value = serde_json::from_str(&last).unwrap();
+                assert_eq!(summary["summary"]["files"], 2);
+                assert_eq!(summary["summary"]["interrupted"], true);
+            }
+        }
+    }
+}
+
+/// Whatever ends the tool, the lines of the files that were judged are there.
+#[test]
+fn a_line_is_not_lost_by_a_signal() {
+    let folder = Folder::new("killed");
+    folder.file("a.scp", &sample("7.scp"));
+    let waiting = Waiting::start(&folder, &["a.scp", "pipe"]);
+    assert_eq!(waiting.line(), "a.scp: accepted (194 bytes; no lead)");
+    waiting.send("-KILL");
+    assert_eq!(waiting.end().0, [""; 0]);
 }

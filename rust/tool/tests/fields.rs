@@ -56,7 +56,7 @@ fn pointers_are_told_as_they_are_stored() {
     ] {
         assert!(pointers.contains(&told), "{told}");
     }
-    let counts = json!({"files": 1, "accepted": 1, "refused": 0, "unread": 0,
+    let counts = json!({"files": 1, "accepted": 1, "refused": 0, "unread": 0, "interrupted": false,
         "passed_over": {"links": 0, "special_files": 0}, "by_number": {}});
     assert_eq!(lines[1..], [json!({"summary": counts})]);
 }
@@ -92,7 +92,7 @@ fn every_file_has_a_line() {
     );
     assert_eq!(lines[2]["pointers"].as_array().unwrap().len(), 12);
     assert!(lines[3]["refusal"].is_null());
-    let counts = json!({"files": 4, "accepted": 2, "refused": 1, "unread": 1,
+    let counts = json!({"files": 4, "accepted": 2, "refused": 1, "unread": 1, "interrupted": false,
         "passed_over": {"links": 0, "special_files": 0}, "by_number": {"2": 1}});
     assert_eq!(lines[4]["summary"], counts);
     assert_eq!(lines[4]["note"], NOTE);
