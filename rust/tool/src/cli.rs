@@ -244,6 +244,8 @@ pub enum Command {
     /// bytes that are not all the same, or with reserved, spare or gap bytes that are
     /// not 0. Bits that fill up a stream's last byte are not counted: the stream is
     /// what is replaced.
+    ///
+    /// OUT gets the permissions of IN.
     #[command(verbatim_doc_comment, after_help = WRITING)]
     Pack {
         /// The record to pack; - is standard input
@@ -255,6 +257,9 @@ pub enum Command {
         /// Replace the file that is there
         #[arg(long)]
         force: bool,
+        /// Give OUT the modification time of IN
+        #[arg(long)]
+        preserve: bool,
     },
     /// Write a record from a job in JSON
     ///

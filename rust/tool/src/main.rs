@@ -33,7 +33,8 @@ use std::process::ExitCode;
 use clap::Parser;
 
 use cli::{Cli, Command};
-use commands::check::Asked;
+use commands::check;
+use commands::pack;
 use commands::samples::Form;
 use output::Output;
 use status::Status;
@@ -82,15 +83,23 @@ fn run(command: Command, output: &mut Output) -> Status {
             json,
             jobs,
         } => {
-            let asked = Asked {
+            let asked = check::Asked {
                 refused,
                 json,
                 allow_empty,
             };
-            commands::check::run(&paths, asked, jobs, output)
+            check::run(&paths, asked, jobs, output)
         }
         Command::Report { file, json } => commands::report::run(&file, json, output),
-        Command::Pack { file, out, force } => commands::pack::run(&file, &out, force, output),
+        Command::Pack {
+            file,
+            out,
+            force,
+            preserve,
+        } => {
+            let asked = pack::Asked { force, preserve };
+            pack::run(&file, &out, asked, output)
+        }
         Command::Write { job, out, force } => commands::write::run(&job, &out, force, output),
         Command::Man => commands::man::run(output),
         Command::Completions { shell } => commands::completions::run(shell, output),

@@ -2,17 +2,86 @@
 
 mod common;
 
-use std::fs::{self, File};
+use std::fs::{self, File, Permissions};
+use std::os::unix::fs::PermissionsExt;
 use std::path::Path;
 use std::process::{Command, Stdio};
+use std::time::{Duration, UNIX_EPOCH};
 
 use common::folder::Folder;
 use common::record::{put, seal, section};
-use common::{run, run_by_shell, run_on_terminal, sample, samples, tool, Ran, NOTE};
+use common::{
+    run, run_by_shell, run_on_terminal, run_with_input, sample, samples, tool, Ran, NOTE,
+};
 use judge::make::{self, Rng};
 use judge::Writing;
 
 // ---- where a record is put
+
+/// A record that only its owner may read is not packed into one that others may.
+#[test]
+fn a_packed_record_has_the_permissions_of_its_source() {
+    let folder = Folder::new("modes");
+    let (source, out) = (
+        folder.file("in.scp", &sample("own-tables.scp")),
+        folder.path("out.scp"),
+    );
+    let mode = |path: &str| fs::metadata(path).unwrap().permissions().mode() & 0o777;
+    for (wanted, umask) in [
+        (0o600, "022"),
+        (0o640, "077"),
+        (0o644, "077"),
+        (0o444, "022"),
+    ] {
+        fs::set_permissions(&source, Permissions::from_mode(wanted)).unwrap();
+        for force in [&[][..], &["--force"]] {
+            let line = format!("umask {umask} && exec \"$@\"");
+            let ran = run_by_shell(&line, &[&["pack", &source, &out], force].concat());
+            assert_eq!(ran.status, 0, "{}", ran.err);
+            assert_eq!(mode(&out), wanted);
+            fs::set_permissions(&out, Permissions::from_mode(0o666)).unwrap();
+        }
+        fs::remove_file(&out).unwrap();
+    }
+    // standard input has none
+    let input = File::open(samples().join("own-tables.scp")).unwrap();
+    let ran = run_with_input(&["pack", "-", &out], input);
+    assert_eq!((ran.status, mode(&out) & 0o600), (0, 0o600));
+}
+
+#[test]
+fn a_modification_time_is_preserved_if_that_is_asked() {
+    let folder = Folder::new("times");
+    let (source, out) = (
+        folder.file("in.scp", &sample("own-tables.scp")),
+        folder.path("out.scp"),
+    );
+    let then = UNIX_EPOCH + Duration::new(1_234_567_890, 123_456_789);
+    File::options()
+        .write(true)
+        .open(&source)
+        .unwrap()
+        .set_modified(then)
+        .unwrap();
+    let modified = |path: &str| fs::metadata(path).unwrap().modified().unwrap();
+    assert_eq!(run(&["pack", "--preserve", &source, &out]).status, 0);
+    assert_eq!(modified(&out), then);
+    assert_eq!(run(&["pack", "--force", &source, &out]).status, 0);
+    assert_ne!(modified(&out), then);
+    assert_eq!(
+        run(&["pack", "--force", "--preserve", &source, &out]).status,
+        0
+    );
+    assert_eq!(modified(&out), then);
+    for words in [
+        ["pack", "--preserve", "-", &out],
+        ["pack", "--preserve", &source, "-"],
+    ] {
+        let ran = run(&words);
+        assert_eq!((ran.status, ran.out.as_str()), (2, ""));
+        assert!(ran.err.contains("have no modification time"), "{}", ran.err);
+    }
+}
 
 #[test]
 fn a_file_is_replaced_only_if_that_is_asked() {
@@ -21,7 +90,7 @@ fn a_file_is_replaced_only_if_that_is_asked() {
     for words in [["pack", "own-tables.scp"], ["write", "job.json"]] {
         let ran = run(&[words[0], words[1], &out]);
         assert_eq!((ran.status, ran.out.as_str()), (2, ""));
-        let told = "it is there already, and is replaced only with --force";
+        let told = "already exists; use --force to replace it";
         assert_eq!(ran.err, format!("tigmavresh: {out}: {told}\n"));
         assert_eq!(fs::read(&out).unwrap(), b"mine");
         let ran = run(&[words[0], words[1], &out, "--force"]);
@@ -62,7 +131,7 @@ fn what_is_no_file_is_not_replaced() {
         for force in [&[][..], &["--force"]] {
             let ran = run(&[&["write", "job.json", out], force].concat());
             assert_eq!((ran.status, ran.out.as_str()), (2, ""), "{out}");
-            let told = "it is there, and is no file";
+            let told = "exists but is not a regular file";
             assert_eq!(ran.err, format!("tigmavresh: {out}: {told}\n"));
         }
     }
@@ -73,7 +142,7 @@ fn what_is_no_file_is_not_replaced() {
 #[cfg(unix)]
 #[test]
 fn a_link_is_followed() {
-    use std::os::unix::fs::{symlink, PermissionsExt};
+    use std::os::unix::fs::symlink;
 
     let folder = Folder::new("links");
     let real = folder.file("real.scp", b"mine");
