@@ -2,6 +2,11 @@
 
 mod common;
 
+/// What tells cargo when to build anew.
+#[allow(dead_code)]
+#[path = "../build.rs"]
+mod build;
+
 use std::fs;
 use std::io::Write;
 use std::os::unix::fs::symlink;
@@ -243,6 +248,53 @@ fn bash_completes_commands_and_options() {
             );
         }
     }
+}
+
+/// A commit changes what a build watches, and another branch does not, wherever git keeps the branch.
+#[test]
+fn a_build_follows_the_commit() {
+    let folder = Folder::new("commits");
+    let git = |words: &[&str]| {
+        let name = [
+            "-c",
+            "user.name=Nobody",
+            "-c",
+            "user.email=nobody@localhost",
+        ];
+        let git = Command::new("git")
+            .args(name)
+            .args(words)
+            .current_dir(&folder.0)
+            .status();
+        assert!(git.unwrap().success(), "{words:?}");
+    };
+    let commit = || git(&["commit", "-q", "--allow-empty", "-m", "A commit"]);
+    // each file that is watched, also in a folder, and what it holds
+    let watched = || -> Vec<_> {
+        let files = build::commit_files(&folder.0.join(".git")).into_iter();
+        let files = files.flat_map(|path| walkdir::WalkDir::new(path).sort_by_file_name());
+        let files = files.flatten().filter(|entry| entry.file_type().is_file());
+        files
+            .map(|file| (file.path().to_path_buf(), fs::read(file.path()).unwrap()))
+            .collect()
+    };
+    git(&["init", "-q"]);
+    commit();
+    let first = watched();
+    git(&["branch", "other"]);
+    assert_eq!(watched(), first);
+    commit();
+    let second = watched();
+    assert_ne!(second, first);
+    git(&["pack-refs", "--all"]);
+    let packed = watched();
+    assert_ne!(packed, second);
+    commit();
+    assert_ne!(watched(), packed);
+    git(&["checkout", "-q", "--detach"]);
+    let detached = watched();
+    commit();
+    assert_ne!(watched(), detached);
 }
 
 /// The version names the commit and the kit, as they are asked for here.
