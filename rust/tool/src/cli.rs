@@ -2,8 +2,7 @@
 
 use std::path::PathBuf;
 
-use clap::builder::TypedValueParser;
-use clap::{value_parser, Parser, Subcommand};
+use clap::{Parser, Subcommand};
 use clap_complete::Shell;
 use scp::Refusal;
 
@@ -67,7 +66,7 @@ const VERSION: &str = concat!(
 );
 
 /// The most files that are checked at once.
-const JOBS_MAX: i64 = 1024;
+const JOBS_MAX: u16 = 1024;
 
 /// The command line.
 #[derive(Parser)]
@@ -76,7 +75,7 @@ const JOBS_MAX: i64 = 1024;
 #[command(disable_help_subcommand = true)]
 pub struct Cli {
     /// Say what refusal N means, in plain words and with an example
-    #[arg(long, value_name = "N", value_parser = refusal())]
+    #[arg(long, value_name = "N", value_parser = refusal)]
     pub explain: Option<Refusal>,
     /// What is to be done.
     #[command(subcommand)]
@@ -166,7 +165,7 @@ pub enum Command {
         #[arg(value_name = "FILE")]
         file: PathBuf,
         /// The lead at this place alone, from 1
-        #[arg(long, value_name = "PLACE")]
+        #[arg(long, value_name = "PLACE", value_parser = place)]
         lead: Option<usize>,
         /// As CSV
         #[arg(long, conflicts_with = "json")]
@@ -206,7 +205,7 @@ pub enum Command {
         #[arg(long)]
         json: bool,
         /// How many files are checked at once; as many as there are cores, if not said
-        #[arg(long, value_name = "N", value_parser = value_parser!(u16).range(1..=JOBS_MAX))]
+        #[arg(long, value_name = "N", value_parser = jobs)]
         jobs: Option<u16>,
     },
     /// Show every rule that a record breaks
@@ -280,6 +279,13 @@ pub enum Command {
         #[arg(long)]
         force: bool,
     },
+    /// Show this help, or that of a command
+    #[command(after_help = NONE)]
+    Help {
+        /// The command
+        #[arg(value_name = "COMMAND")]
+        command: Option<String>,
+    },
     /// Write the manual page, to be read by man
     ///
     /// For example: tigmavresh man >tigmavresh.1; man ./tigmavresh.1
@@ -297,9 +303,25 @@ pub enum Command {
 }
 
 /// A refusal, by its number.
-fn refusal() -> impl TypedValueParser<Value = Refusal> {
-    let numbers = 1..=i64::from(Refusal::COUNT);
-    value_parser!(u8).range(numbers).try_map(Refusal::try_from)
+fn refusal(text: &str) -> Result<Refusal, String> {
+    let number = text.parse::<u8>().ok();
+    let refusal = number.and_then(|number| Refusal::try_from(number).ok());
+    refusal.ok_or_else(|| format!("refusals are numbered 1 to {}", Refusal::COUNT))
+}
+
+/// How many files are checked at once.
+fn jobs(text: &str) -> Result<u16, String> {
+    let jobs = text
+        .parse()
+        .ok()
+        .filter(|jobs| (1..=JOBS_MAX).contains(jobs));
+    jobs.ok_or_else(|| format!("give a whole number from 1 to {JOBS_MAX}"))
+}
+
+/// The place of a lead. Whether there is one at it, the record says.
+fn place(text: &str) -> Result<usize, String> {
+    let place = text.parse().ok();
+    place.ok_or_else(|| "give the number of a lead, from 1".to_string())
 }
 
 #[cfg(test)]

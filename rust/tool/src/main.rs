@@ -43,7 +43,10 @@ fn main() -> ExitCode {
     let mut output = Output::standard();
     let asked = match Cli::try_parse() {
         Ok(asked) => asked,
-        Err(told) => return end(&told, output).into(),
+        Err(told) => {
+            let status = tell(&told, &mut output);
+            return output.end(status).into();
+        }
     };
     let status = match (asked.explain, asked.command) {
         (Some(refusal), _) => rules::show(refusal, &mut output),
@@ -54,14 +57,25 @@ fn main() -> ExitCode {
     output.end(status).into()
 }
 
-/// Ends where the command line asks for help or for the version, or is not understood.
-fn end(told: &clap::Error, mut output: Output) -> Status {
+/// Tells of a command line that asks for help or for the version, or is not understood.
+fn tell(told: &clap::Error, output: &mut Output) -> Status {
     if told.use_stderr() {
         let _ = told.print();
         return Status::NotDone;
     }
     output.write(|to| write!(to, "{}", told.render()));
-    output.end(Status::Accepted)
+    Status::Accepted
+}
+
+/// Shows the help of the tool, or of a command: what --help shows.
+fn help(command: Option<String>, output: &mut Output) -> Status {
+    let words = ["tigmavresh".to_string()].into_iter().chain(command);
+    let words = words.chain(["--help".to_string()]);
+    match Cli::try_parse_from(words) {
+        Err(told) => tell(&told, output),
+        // the words ask for help, and for nothing else
+        Ok(_) => Status::NotDone,
+    }
 }
 
 /// Does what a command asks for.
@@ -101,6 +115,7 @@ fn run(command: Command, output: &mut Output) -> Status {
             pack::run(&file, &out, asked, output)
         }
         Command::Write { job, out, force } => commands::write::run(&job, &out, force, output),
+        Command::Help { command } => help(command, output),
         Command::Man => commands::man::run(output),
         Command::Completions { shell } => commands::completions::run(shell, output),
     }

@@ -316,6 +316,15 @@ fn jobs_are_a_number_over_0() {
         let ran = run(&["check", "007.scp", &format!("--jobs={jobs}")]);
         assert_eq!((ran.status, ran.out.as_str()), (2, ""), "{jobs}");
         assert!(ran.err.contains("--jobs"), "{}", ran.err);
+        let words = [
+            "give a whole number from 1 to 1024\n",
+            "a value is required",
+        ];
+        assert!(
+            words.iter().any(|words| ran.err.contains(words)),
+            "{}",
+            ran.err
+        );
     }
     assert_eq!(run(&["check", "007.scp", "--jobs", "64"]).status, 0);
 }

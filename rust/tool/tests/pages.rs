@@ -55,7 +55,14 @@ fn every_refusal_is_explained() {
             .strip_prefix(&format!("Refusal {number}: "));
         names.push(name.unwrap().to_string());
         assert!(ran.out.contains("\n\nFor example, "), "{}", ran.out);
-        assert!(ran.out.contains("\n\nGiven by "), "{}", ran.out);
+        let given = [
+            "\n\nGiven by ",
+            "\n\nOnly programs that call the library see this.\n",
+        ];
+        assert_eq!(
+            given.map(|words| ran.out.contains(words)),
+            [number != 11, number == 11]
+        );
     }
     let all = names.len();
     names.sort();
@@ -64,6 +71,12 @@ fn every_refusal_is_explained() {
     for number in ["0", "18", "256", "-1", "one", ""] {
         let ran = run(&[&format!("--explain={number}")]);
         assert_eq!((ran.status, ran.out.as_str()), (2, ""), "{number}");
+        let words = ["refusals are numbered 1 to 17\n", "a value is required"];
+        assert!(
+            words.iter().any(|words| ran.err.contains(words)),
+            "{}",
+            ran.err
+        );
     }
     assert_eq!(run(&["--explain", "1", "open", "007.scp"]).status, 2);
 }
@@ -112,7 +125,7 @@ fn the_manual_has_every_command() {
         ran.first_line()
     );
     let commands = commands();
-    assert_eq!(commands.len(), 10);
+    assert_eq!(commands.len(), 11);
     for command in &commands {
         assert!(
             ran.out.contains(&format!("\n.SS \"{command}\"\n")),
@@ -153,7 +166,7 @@ fn the_help_of_a_command_is_its_own() {
         assert_eq!(help.ends_with(others), many, "{help}");
         let reads = many || ["fields", "leads", "samples", "report"].contains(&words);
         assert_eq!(help.contains(input), reads, "{help}");
-        let refuses = !["man", "completions"].contains(&words);
+        let refuses = !["help", "man", "completions"].contains(&words);
         assert_eq!(help.contains("\n  1  "), refuses, "{help}");
         assert_eq!(help.matches("\nExit status:\n  0  ").count(), 1, "{help}");
     }

@@ -759,7 +759,7 @@ const ONE_CODE: &str = "\"01 00 01 00 01 01 01 00 00 00 00 00 00\"";
 const NO_FIRST: [&str; 2] = [", \"first_sample\": 1", ""];
 
 /// Changes of a job and of its samples, the refusal, and what is found.
-const REFUSED: [(Changes, Changes, u8, &str); 11] = [
+const REFUSED: [(Changes, Changes, u8, &str); 12] = [
     (
         &[["\"tag\": 26", "\"tag\": 27"]],
         &[],
@@ -801,6 +801,16 @@ const REFUSED: [(Changes, Changes, u8, &str); 11] = [
         &[],
         15,
         "lead 1, I: no code for its difference",
+    ),
+    // the difference, not the sample
+    (
+        &[["\"default\"", "\"none\""]],
+        &[[
+            "1,0,0\n2,0,0\n3,0,0\n",
+            "1,-32768,0\n2,32767,0\n3,-32768,0\n",
+        ]],
+        15,
+        "lead 1, I: no code for its difference of order 2 at sample 3, -131,070\n",
     ),
     (
         &[["_order\": 2", "_order\": 3"]],
