@@ -805,10 +805,11 @@ const REFUSED: [(Changes, Changes, u8, &str); 12] = [
     // the difference, not the sample
     (
         &[["\"default\"", "\"none\""]],
-        &[[
-            "1,0,0\n2,0,0\n3,0,0\n",
-            "1,-32768,0\n2,32767,0\n3,-32768,0\n",
-        ]],
+        &[
+            ["\n1,0,0", "\n1,-32768,0"],
+            ["\n2,0,0", "\n2,32767,0"],
+            ["\n3,0,0", "\n3,-32768,0"],
+        ],
         15,
         "lead 1, I: no code for its difference of order 2 at sample 3, -131,070\n",
     ),
