@@ -3,7 +3,7 @@
 //! Control characters, direction marks, combining marks, blanks other than a space and characters without a width are escaped
 //! as Rust escapes them (`\n`, `\u{202e}`), and so is a backslash. A byte that belongs to no character of UTF-8 is `\xNN`.
 
-/// What a character, or a byte that belongs to none, is shown as.
+/// A character, or a byte that belongs to none, as it is shown.
 pub struct Piece {
     /// How many bytes it has.
     pub bytes: usize,

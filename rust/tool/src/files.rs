@@ -8,7 +8,7 @@ use walkdir::{DirEntry, WalkDir};
 
 use crate::input::{self, Reader};
 
-/// What a path leads to.
+/// Something that a path leads to.
 pub enum Listed {
     /// A file to be read.
     File(PathBuf),
@@ -16,7 +16,7 @@ pub enum Listed {
     Link,
     /// A FIFO, a socket or a device in a folder, which is not read.
     Special,
-    /// What could not be looked into, and why.
+    /// A path that could not be looked into, and why.
     Unread(PathBuf, io::Error),
 }
 
@@ -74,7 +74,7 @@ fn listed_entry(entry: DirEntry) -> Listed {
     }
 }
 
-/// What could not be looked into, below a path, and why.
+/// The path that could not be looked into, at or below a path, and why.
 fn unread(path: &Path, error: walkdir::Error) -> Listed {
     let path = error.path().unwrap_or(path).to_path_buf();
     let circle = || io::Error::other("links go in a circle");

@@ -1,4 +1,4 @@
-//! What is shown, as JSON: docs/output.schema.json says its shape.
+//! The answers as JSON: docs/output.schema.json says their shape.
 
 use std::collections::BTreeMap;
 use std::io;
@@ -41,12 +41,12 @@ pub struct About<T> {
     note: Option<&'static str>,
 }
 
-/// What was decided of a record or of a lead.
+/// The decision on a record or on a lead.
 #[derive(Clone, Serialize)]
 pub struct Decision {
     verdict: Word,
     refusal: Option<u8>,
-    /// What the rule asks, where it is broken.
+    /// The rule in words, where it is broken.
     #[serde(skip_serializing_if = "Option::is_none")]
     rule: Option<&'static str>,
     #[serde(skip_serializing_if = "Vec::is_empty")]
@@ -124,7 +124,7 @@ impl<T> About<T> {
     }
 }
 
-/// What a file holds of which nothing is shown.
+/// No content.
 #[derive(Serialize)]
 pub struct Nothing {}
 
@@ -136,13 +136,13 @@ pub fn unread(file: &Path, error: &io::Error) -> About<Nothing> {
     }
 }
 
-/// What `check` shows of a record that was accepted.
+/// The content that `check` shows of a record that was accepted.
 #[derive(Serialize)]
 pub struct Counted {
     pub lead_count: usize,
 }
 
-/// What `open` shows of a record.
+/// The content that `open` shows.
 #[derive(Serialize)]
 pub struct Pointers {
     pub pointers: Vec<Pointer>,
@@ -170,7 +170,7 @@ impl From<&scp::Pointer> for Pointer {
     }
 }
 
-/// What `fields` shows of a record.
+/// The content that `fields` shows.
 #[derive(Serialize)]
 pub struct Header {
     pub fields: Vec<Field>,
@@ -188,7 +188,7 @@ pub struct Field {
     pub reading: Reading,
 }
 
-/// What `leads` and `samples` show of a record: what all leads have in common, and the leads.
+/// The content that `leads` and `samples` show: what all leads have in common, and the leads.
 #[derive(Serialize)]
 pub struct Rhythm {
     flags: u8,
@@ -262,14 +262,14 @@ impl Lead {
     }
 }
 
-/// What `report` shows of a record: each rule, each lead.
+/// The content that `report` shows: each rule, each lead.
 #[derive(Serialize)]
 pub struct Report {
     #[serde(flatten)]
     pub counted: Option<Counted>,
     pub rules: Vec<Rule>,
     pub leads: Vec<Lead>,
-    /// What is not certain, if something is not.
+    /// Which answers are not certain, if some are not.
     #[serde(skip_serializing_if = "Option::is_none")]
     pub caution: Option<String>,
 }
@@ -304,7 +304,7 @@ struct Counts {
     by_number: BTreeMap<u8, usize>,
 }
 
-/// What was passed over in folders.
+/// Entries of folders that were passed over.
 #[derive(Serialize)]
 struct PassedOver {
     links: usize,
@@ -332,13 +332,13 @@ impl Summary {
     }
 }
 
-/// What is told, in one line.
+/// An object in one line.
 pub fn line(told: &impl Serialize) -> String {
     // Numbers, strings and lists of them: there is nothing that could fail.
     serde_json::to_string(told).expect("it can be told in JSON")
 }
 
-/// What is told, in several lines.
+/// An object in several lines.
 pub fn text(told: &impl Serialize) -> String {
     serde_json::to_string_pretty(told).expect("it can be told in JSON")
 }

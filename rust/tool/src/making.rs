@@ -64,8 +64,8 @@ impl Making {
         })
     }
 
-    /// What is stored for the sample at a place, from 0, of these: its difference, of the order that the record has. As many
-    /// samples as the order are stored as they are.
+    /// The value that is stored for the sample at a place, from 0: its difference, of the record's order. The first samples, as
+    /// many as the order, are stored as they are.
     pub fn stored(&self, samples: &[i16], at: usize) -> i32 {
         let sample = |back: usize| i32::from(samples[at - back]);
         match self.order {

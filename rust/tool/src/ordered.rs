@@ -4,13 +4,13 @@ use std::collections::BTreeMap;
 use std::sync::{Arc, Condvar, Mutex, MutexGuard, PoisonError};
 use std::thread;
 
-/// So many answers at most wait for one that is not ready, so that they do not pile up behind it.
+/// The most answers that wait for one that is not ready, so that they do not pile up behind it.
 const AHEAD: usize = 512;
 
 /// The answers, in the order of the things: an iterator of all those that are ready, again and again until there are no more.
 pub struct Ordered<A>(Arc<Shared<A>>);
 
-/// What workers, the iterator and whoever stops them share.
+/// Shared by the workers, the iterator and whoever stops them.
 struct Shared<A> {
     state: Mutex<State<A>>,
     changed: Condvar,
@@ -27,7 +27,7 @@ struct State<A> {
 }
 
 impl<A: Send + 'static> Ordered<A> {
-    /// Starts so many workers, each with something of its own that it works with.
+    /// Starts this number of workers, each with something of its own to work with.
     pub fn start<T, W>(
         workers: usize,
         things: impl Iterator<Item = T> + Send + 'static,
@@ -62,7 +62,7 @@ impl<A: Send + 'static> Ordered<A> {
         Ordered(shared)
     }
 
-    /// What stops the workers, and ends the answers with those that are ready.
+    /// A function that stops the workers; the answers end with those that are ready.
     pub fn stop(&self) -> impl Fn() + Send + 'static {
         let shared = Arc::clone(&self.0);
         move || shared.stop()
@@ -117,7 +117,7 @@ impl<A> Shared<A> {
     }
 }
 
-/// A worker. When it ends, also by a panic, that is told.
+/// A worker. Its end is noted, also if it panics.
 struct Worker<A>(Arc<Shared<A>>);
 
 impl<A> Worker<A> {

@@ -102,7 +102,7 @@ fn complain(line: &str) {
     let _ = writeln!(io::stderr(), "tigmavresh: {line}");
 }
 
-/// What standard input and standard output are called.
+/// The names that standard input and standard output are shown by.
 const INPUT: &str = "standard input";
 const OUTPUT: &str = "standard output";
 

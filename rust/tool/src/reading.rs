@@ -9,11 +9,11 @@ const BIRTH_DATE: u8 = 5;
 const RECORDING_DATE: u8 = 25;
 const RECORDING_TIME: u8 = 26;
 
-/// What is remarked of a date and of a time that there are none of.
+/// The remarks on a date and on a time that there are none of.
 const NO_DATE: &str = "not a date in the calendar";
 const NO_TIME: &str = "not a time of day";
 
-/// What a field's bytes are read as.
+/// The reading of a field's bytes.
 #[derive(Debug, PartialEq, Eq, Serialize)]
 pub struct Reading {
     /// By a name of its own.
@@ -23,13 +23,13 @@ pub struct Reading {
     pub remark: Option<&'static str>,
 }
 
-/// What bytes are read as.
+/// A value that bytes are read as.
 #[derive(Debug, PartialEq, Eq, Serialize)]
 #[serde(rename_all = "lowercase")]
 pub enum Value {
     /// UTF-8, without the NUL that closes it.
     Text(String),
-    /// What text there is among other bytes, without the NUL that closes it.
+    /// Text among bytes that are not UTF-8, escaped, without the NUL that closes it.
     Escaped(String),
     /// Year, month and day.
     Date(String),
@@ -38,7 +38,7 @@ pub enum Value {
 }
 
 impl Reading {
-    /// What a field's bytes are read as.
+    /// Reads the bytes of a field.
     pub fn of(tag: u8, bytes: &[u8]) -> Reading {
         let (by_tag, otherwise) = match tag {
             BIRTH_DATE | RECORDING_DATE => (date(bytes).map(Value::Date), NO_DATE),

@@ -1,4 +1,4 @@
-//! What is shown of a refusal.
+//! Showing a refusal.
 
 use std::path::Path;
 
@@ -12,7 +12,7 @@ use crate::verdict::{self, Word};
 /// How many things found are shown; a record can break one rule in a great many places.
 const FOUND_SHOWN: usize = 8;
 
-/// What a rule's words are headed by, so that nobody takes them for what was found.
+/// The label of a rule's words, so that nobody takes them for what was found.
 pub const BROKEN: &str = "rule broken";
 
 /// Who decided, and who explains.
@@ -24,7 +24,7 @@ pub struct Refused {
     pub refusal: Refusal,
     /// Refused, or absent: a record that has not what is asked for may be sound.
     pub word: Word,
-    /// What was found, at least one thing.
+    /// The things found, at least one.
     pub found: Vec<String>,
 }
 
@@ -66,7 +66,7 @@ impl Refused {
         }
     }
 
-    /// What stands below that: what the rule asks, and what was found.
+    /// The lines below that: what the rule asks, and what was found.
     pub fn lines(&self) -> Vec<String> {
         match self.word {
             Word::Absent => Vec::new(),
@@ -90,7 +90,7 @@ impl Refused {
     }
 }
 
-/// What the rule asks, and this that was found, in lines.
+/// The rule in words and this that was found, in lines.
 pub fn told(refusal: Refusal, found: &[String]) -> Vec<String> {
     let mut lines = vec![line(BROKEN, refusal.words())];
     lines.extend(found_lines(found));

@@ -19,7 +19,7 @@ const MODE: u32 = 0o777;
 /// The mode of a file until it has its own: its owner's alone.
 const PRIVATE: u32 = 0o600;
 
-/// What a file is to have besides its bytes.
+/// A file's permissions and modification time.
 #[derive(Default)]
 pub struct Traits {
     /// Else those of the file that is replaced, or what the system gives a new file.

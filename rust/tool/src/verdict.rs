@@ -25,7 +25,7 @@ const MOST_BEATS: usize = 2048;
 pub enum Word {
     Accepted,
     Refused,
-    /// What is asked for is not in the record, and may well not be.
+    /// The record does not have what is asked for, and need not have it.
     Absent,
     /// The file could not be read.
     Unread,

@@ -190,6 +190,7 @@ fn the_readme_is_true() {
         examples += 1;
     }
     assert!(examples >= 5, "{examples}");
+    assert_eq!(readme.matches("```text\n").count(), examples);
     for command in commands() {
         let line = format!("\n./tigmavresh {command} ");
         assert!(readme.contains(&line), "{command}");

@@ -565,6 +565,23 @@ fn the_example_is_the_sample() {
     assert!(page.contains(&format!("```json\n{job}```\n")));
 }
 
+/// What docs/JOBS.md says of jobs that are wrong is what the tool says.
+#[test]
+fn the_examples_of_wrong_jobs_are_true() {
+    let docs = Path::new(env!("CARGO_MANIFEST_DIR")).join("../../docs/JOBS.md");
+    let page = fs::read_to_string(docs).unwrap();
+    let folder = Folder::new("wrong-jobs");
+    for (job, csv) in [
+        (&[["\"version\": 13", "\"version\": 300"]][..], &[][..]),
+        (&[], &[["\n6,1,1", "\n6,1,40000"]]),
+        (&[["_order\": 2", "_order\": 3"]], &[]),
+    ] {
+        let ran = changed(&folder, job, csv);
+        let told = format!("{}{}", ran.out, ran.err).replace(&folder.path(""), "");
+        assert!(page.contains(&told), "{told}");
+    }
+}
+
 #[test]
 fn a_job_may_come_by_standard_input() {
     let folder = Folder::new("by-input");

@@ -24,10 +24,10 @@ use crate::verdict::{Room, Verdict};
 const COUNTING: &str = "{spinner} files so far: {pos}";
 const BAR: &str = "{bar:40} {pos} of {len} files, {eta} left";
 
-/// What is said where no file was found, as with a folder that is not mounted.
+/// Said where no file was found, as in a folder that is not mounted.
 const EMPTY: &str = "no file was found to check; if that is right, say --allow-empty";
 
-/// What is asked for.
+/// The options.
 #[derive(Clone, Copy)]
 pub struct Asked {
     /// Show only what is refused.
@@ -38,7 +38,7 @@ pub struct Asked {
     pub allow_empty: bool,
 }
 
-/// What came of something that was listed.
+/// The outcome of something that was listed.
 enum Checked {
     /// A file that was checked, or could not be read.
     File(PathBuf, io::Result<Judged>),
@@ -53,7 +53,7 @@ impl Checked {
     }
 }
 
-/// What was judged of a file.
+/// The judgement on a file.
 struct Judged {
     size: Size,
     verdict: Verdict,

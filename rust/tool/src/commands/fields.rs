@@ -104,7 +104,7 @@ fn rows(tag: u8, bytes: &[u8]) -> Vec<[String; 5]> {
     hex_lines.into_iter().map(row).collect()
 }
 
-/// What stands beside the lines of a field's bytes: its text in quotes, or its date or time.
+/// The text beside each line of a field's bytes: in quotes, or its date or time.
 fn texts(tag: u8, bytes: &[u8]) -> Vec<String> {
     let reading = Reading::of(tag, bytes);
     let mut texts = match reading.value {

@@ -29,7 +29,7 @@ const POINTERS: usize = 12;
 /// The sections that are written.
 const WRITTEN: [u16; 5] = [0, 1, 2, 3, 6];
 
-/// What is said where there is no time to preserve.
+/// Said where there is no time to preserve.
 const NO_TIME: &str =
     "--preserve needs IN and OUT to be files: standard input and output have no modification time";
 

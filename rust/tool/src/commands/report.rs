@@ -21,18 +21,18 @@ const ALONE: u8 = 9;
 const RULES: [Column; 3] = [numbers("Rule"), words(""), words("Answer")];
 const LEADS: [Column; 3] = [numbers("Lead"), words(""), words("Answer")];
 
-/// What the library says of a rule, asked alone.
+/// The library's answer to a rule, asked alone.
 struct Answer {
     /// The refusal of its rule.
     refusal: Refusal,
     is_broken: bool,
     /// Whether every rule before it is kept.
     is_certain: bool,
-    /// Of a rule that is broken; nothing, where that is not certain and nothing can be pointed at.
+    /// Empty if the rule is kept, or if it is not certain that it is broken and nothing can be pointed at.
     found: Vec<String>,
 }
 
-/// What reading a lead answers.
+/// The answer to reading a lead.
 struct Read {
     place: usize,
     entry: Entry,
@@ -152,7 +152,7 @@ impl<'a> Report<'a> {
         }
     }
 
-    /// What is not certain, if something is not.
+    /// Which answers are not certain, if some are not.
     fn caution(&self) -> Option<String> {
         let first = self.answers.iter().find(|answer| answer.is_broken)?;
         let last = self.answers.last().filter(|last| !last.is_certain)?;
@@ -167,7 +167,7 @@ impl<'a> Report<'a> {
         ))
     }
 
-    /// What was found of the file as a whole.
+    /// The things found in the file as a whole.
     fn found(&self) -> Vec<String> {
         let foreign = explain::foreign(&self.input.bytes);
         foreign.into_iter().collect()
