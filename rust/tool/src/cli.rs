@@ -191,7 +191,7 @@ pub enum Command {
     /// refused, with what the rule asks and the first thing found; report shows all of
     /// it. At the end: how many files were refused with each number.
     ///
-    /// A folder is every regular file in it, whatever its name is, and every folder
+    /// In a folder every regular file is checked, whatever its name is, and every folder
     /// in it, in the order of their names. A link is followed if it is given as PATH.
     /// In a folder links, FIFOs, sockets and devices are passed over, and the summary
     /// counts them. If there is no file at all, as in a folder that is not mounted, the
@@ -207,13 +207,13 @@ pub enum Command {
         /// Only those that are refused; the summary is of all
         #[arg(long)]
         refused: bool,
-        /// Let it pass that no file is found
+        /// Do not fail if no file is found
         #[arg(long)]
         allow_empty: bool,
         /// As JSON, an object in each line
         #[arg(long)]
         json: bool,
-        /// How many files are checked at once; as many as there are cores, if not said
+        /// How many files to check at once; by default as many as there are cores
         #[arg(long, value_name = "N", value_parser = jobs)]
         jobs: Option<u16>,
     },

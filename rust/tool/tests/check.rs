@@ -203,7 +203,7 @@ fn no_file_is_no_good_answer() {
     ] {
         let ran = run_in(&folder, &["check", name]);
         assert_eq!((ran.status, &ran.out), (2, &text));
-        let words = "no file was found to check; if that is right, say --allow-empty";
+        let words = "no files found; use --allow-empty if that is expected";
         assert_eq!(ran.err, format!("tigmavresh: {words}\n"));
         let ran = run_in(&folder, &["check", "--allow-empty", name]);
         assert_eq!((ran.status, &ran.out, ran.err.as_str()), (0, &text, ""));

@@ -10,11 +10,12 @@ mod build;
 use std::fs;
 use std::io::Write;
 use std::os::unix::fs::symlink;
-use std::path::Path;
+use std::path::{Path, PathBuf};
 use std::process::{Command, Stdio};
 
 use common::folder::Folder;
 use common::{run, run_in, samples, Ran};
+use walkdir::{DirEntry, WalkDir};
 
 /// The commands, as the help lists them.
 fn commands() -> Vec<String> {
@@ -264,51 +265,55 @@ fn bash_completes_commands_and_options() {
     }
 }
 
+/// Calls git in a folder.
+fn git(folder: &Folder, words: &[&str]) {
+    let name = [
+        "-c",
+        "user.name=Nobody",
+        "-c",
+        "user.email=nobody@localhost",
+    ];
+    let mut git = Command::new("git");
+    git.args(name).args(words).current_dir(&folder.0);
+    assert!(git.status().unwrap().success(), "{words:?}");
+}
+
+/// Each file that a build watches for the commit, also in a folder, and its bytes.
+fn watched(folder: &Folder) -> Vec<(PathBuf, Vec<u8>)> {
+    let files = build::commit_files(&folder.0.join(".git")).into_iter();
+    let files = files.flat_map(|path| WalkDir::new(path).sort_by_file_name());
+    let files = files.flatten().filter(|entry| entry.file_type().is_file());
+    let with_bytes = |file: DirEntry| (file.path().to_path_buf(), fs::read(file.path()).unwrap());
+    files.map(with_bytes).collect()
+}
+
 /// A commit changes what a build watches, and another branch does not, wherever git keeps the branch.
 #[test]
 fn a_build_follows_the_commit() {
     let folder = Folder::new("commits");
-    let git = |words: &[&str]| {
-        let name = [
-            "-c",
-            "user.name=Nobody",
-            "-c",
-            "user.email=nobody@localhost",
-        ];
-        let git = Command::new("git")
-            .args(name)
-            .args(words)
-            .current_dir(&folder.0)
-            .status();
-        assert!(git.unwrap().success(), "{words:?}");
+    let commit = || {
+        git(
+            &folder,
+            &["commit", "-q", "--allow-empty", "-m", "A commit"],
+        )
     };
-    let commit = || git(&["commit", "-q", "--allow-empty", "-m", "A commit"]);
-    // each file that is watched, also in a folder, and what it holds
-    let watched = || -> Vec<_> {
-        let files = build::commit_files(&folder.0.join(".git")).into_iter();
-        let files = files.flat_map(|path| walkdir::WalkDir::new(path).sort_by_file_name());
-        let files = files.flatten().filter(|entry| entry.file_type().is_file());
-        files
-            .map(|file| (file.path().to_path_buf(), fs::read(file.path()).unwrap()))
-            .collect()
-    };
-    git(&["init", "-q"]);
+    git(&folder, &["init", "-q"]);
     commit();
-    let first = watched();
-    git(&["branch", "other"]);
-    assert_eq!(watched(), first);
+    let first = watched(&folder);
+    git(&folder, &["branch", "other"]);
+    assert_eq!(watched(&folder), first);
     commit();
-    let second = watched();
+    let second = watched(&folder);
     assert_ne!(second, first);
-    git(&["pack-refs", "--all"]);
-    let packed = watched();
+    git(&folder, &["pack-refs", "--all"]);
+    let packed = watched(&folder);
     assert_ne!(packed, second);
     commit();
-    assert_ne!(watched(), packed);
-    git(&["checkout", "-q", "--detach"]);
-    let detached = watched();
+    assert_ne!(watched(&folder), packed);
+    git(&folder, &["checkout", "-q", "--detach"]);
+    let detached = watched(&folder);
     commit();
-    assert_ne!(watched(), detached);
+    assert_ne!(watched(&folder), detached);
 }
 
 /// The version names the commit and the kit, as they are asked for here.

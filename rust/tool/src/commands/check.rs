@@ -25,7 +25,7 @@ const COUNTING: &str = "{spinner} files so far: {pos}";
 const BAR: &str = "{bar:40} {pos} of {len} files, {eta} left";
 
 /// Said where no file was found, as in a folder that is not mounted.
-const EMPTY: &str = "no file was found to check; if that is right, say --allow-empty";
+const EMPTY: &str = "no files found; use --allow-empty if that is expected";
 
 /// The options.
 #[derive(Clone, Copy)]
@@ -34,7 +34,7 @@ pub struct Asked {
     pub refused: bool,
     /// Show it as JSON.
     pub json: bool,
-    /// Let it pass that no file is found.
+    /// Do not fail if no file is found.
     pub allow_empty: bool,
 }
 

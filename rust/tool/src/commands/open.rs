@@ -36,6 +36,7 @@ pub fn run(files: &[PathBuf], json: bool, output: &mut Output) -> Status {
                 tally.not_read += 1;
             }
         }
+        output.flush();
     }
     conclude(&tally, json, output);
     tally.status()
