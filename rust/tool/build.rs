@@ -3,6 +3,7 @@
 //! A build needs neither git nor the kit: what is not there is unknown.
 
 use std::env;
+use std::fs;
 use std::path::{Path, PathBuf};
 use std::process::Command;
 
@@ -25,13 +26,27 @@ fn main() {
 /// watched, since that would be a change each time.
 fn watch(top: &Path) {
     println!("cargo:rerun-if-changed=build.rs");
-    let git = [".git/HEAD", ".git/refs/heads", ".git/packed-refs"];
-    let archive = ["target/staticlib/libscp.a"];
-    for name in git.iter().chain(&SOURCES).chain(&archive) {
-        let path = top.join(name);
+    let made = SOURCES.iter().chain(&["target/staticlib/libscp.a"]);
+    let made = made.map(|name| top.join(name));
+    for path in commit_files(&top.join(".git")).into_iter().chain(made) {
         if path.exists() {
             println!("cargo:rerun-if-changed={}", path.display());
         }
+    }
+}
+
+/// What changes when the commit does, and not when another branch is made: HEAD and the file of the branch that it names. A
+/// branch may have no file, and be in packed-refs; its next commit makes the file.
+pub fn commit_files(git: &Path) -> Vec<PathBuf> {
+    let head = git.join("HEAD");
+    let named = fs::read_to_string(&head).unwrap_or_default();
+    let Some(branch) = named.strip_prefix("ref: ") else {
+        return vec![head];
+    };
+    let branch = git.join(branch.trim_end());
+    match branch.exists() {
+        true => vec![head, branch],
+        false => vec![head, git.join("packed-refs"), git.join("refs/heads")],
     }
 }
 

@@ -2,8 +2,7 @@
 
 use std::path::PathBuf;
 
-use clap::builder::TypedValueParser;
-use clap::{value_parser, Parser, Subcommand};
+use clap::{Parser, Subcommand};
 use clap_complete::Shell;
 use scp::Refusal;
 
@@ -13,7 +12,8 @@ Exit status:
   0  every file was accepted
   1  some file was refused, or some lead of it, or pack left it alone
   2  some of the work could not be done: a file could not be read, an answer
-     not written, or the command line is not understood
+     not written, no file was found, or the command line is not understood
+  130  check was interrupted (Ctrl-C): its summary is of the files until then
 
 A FILE of - is standard input. A file that is refused or cannot be read never
 stops the others.";
@@ -22,7 +22,8 @@ stops the others.";
 const ONE: &str = "\
 Exit status:
   0  the record was accepted
-  1  it was refused, or some lead of it that was to be read
+  1  it was refused, or some lead of it that was to be read, or it has no such
+     lead
   2  the work could not be done: the file could not be read, the answer not
      written, or the command line is not understood
 
@@ -54,7 +55,10 @@ Opens, checks, shows, packs and writes SCP-ECG records.
 
 Records are judged by a library that is proved correct. A record is accepted
 or it is refused, with the number of the rule that it breaks, the smallest if
-there are several, and with nothing of it shown.";
+there are several, and with nothing of it shown. What is asked for and is not in
+a sound record, as a lead that it does not have, is absent.
+
+docs/output.schema.json says what --json shows, in every command that has it.";
 
 /// The version of the tool, and what was proved: the commit and the kit.
 const VERSION: &str = concat!(
@@ -67,7 +71,7 @@ const VERSION: &str = concat!(
 );
 
 /// The most files that are checked at once.
-const JOBS_MAX: i64 = 1024;
+const JOBS_MAX: u16 = 1024;
 
 /// The command line.
 #[derive(Parser)]
@@ -76,7 +80,7 @@ const JOBS_MAX: i64 = 1024;
 #[command(disable_help_subcommand = true)]
 pub struct Cli {
     /// Say what refusal N means, in plain words and with an example
-    #[arg(long, value_name = "N", value_parser = refusal())]
+    #[arg(long, value_name = "N", value_parser = refusal)]
     pub explain: Option<Refusal>,
     /// What is to be done.
     #[command(subcommand)]
@@ -90,7 +94,7 @@ pub enum Command {
     ///
     /// For each pointer of Section 0: the section's ID and name, its length in bytes
     /// with its header, the index of its first byte (from 1), and whether it is
-    /// present. Of a record that is refused: the number, what its rule asks, and what
+    /// present. For a record that is refused: the number, what its rule asks, and what
     /// was found.
     ///
     /// As JSON there is an object in each line, and the last one is the summary.
@@ -105,20 +109,23 @@ pub enum Command {
     },
     /// Show the header fields of a record, byte for byte
     ///
-    /// For each field of Section 1, in the order they stand in: its tag and name, its
-    /// length, its bytes in hex and, if they are printable ASCII, as text, a NUL being
-    /// \0. The patient identifier is shown by its bytes like every other field:
+    /// For each field of Section 1, in the order they are stored in: its tag and name,
+    /// its length, its bytes in hex and, if it has any character that can be seen, its
+    /// text. The patient identifier is shown by its bytes like every other field:
     /// 30 30 37 00 and 37 00 are two identifiers.
     ///
-    /// Beside the bytes of the dates of birth and of recording and of the time of
-    /// recording stands, without quotes, 2024-03-14 or 09:26:53: if they are 4 bytes
-    /// or 3, and month, day, hour, minute and second are in their bounds. That is the
-    /// tool's own reading of the bytes, of which the proved library says nothing;
-    /// whether there is such a day is not asked.
+    /// Text is UTF-8. A NUL is shown as \0, a line break as \n, another character that
+    /// cannot be seen as \u{NNNN}, a byte that is not UTF-8 as \xNN, and a backslash as
+    /// \\: no two texts look alike.
     ///
-    /// As JSON there is one object. Its refusal is null if the exit status is 0. A
-    /// field's bytes are in hex as above; beside them is its text, date or time, if
-    /// there is one. A text has every byte, a NUL being \u0000.
+    /// The dates of birth and of recording and the time of recording are shown without
+    /// quotes, as 2024-03-14 and 09:26:53. A date that is not in the calendar and a
+    /// time that is none are shown by their bytes, with a remark. Text, dates and times
+    /// are the tool's own reading of the bytes: the proved library says nothing of it.
+    ///
+    /// As JSON there is one object. A field's bytes are in hex; beside them is its text
+    /// without the NUL that closes it, its date or its time, if there is one. Where the
+    /// bytes are not UTF-8 there is, in place of the text, the text escaped as above.
     #[command(verbatim_doc_comment, after_help = ONE)]
     Fields {
         /// The record to show
@@ -136,7 +143,7 @@ pub enum Command {
     /// differences stored, and how many bits a sample takes. The leads' streams are
     /// not read; samples does that.
     ///
-    /// As JSON there is one object. Its refusal is null if the exit status is 0.
+    /// As JSON there is one object.
     #[command(verbatim_doc_comment, after_help = ONE)]
     Leads {
         /// The record to show
@@ -148,8 +155,8 @@ pub enum Command {
     },
     /// Show the samples of a record's leads
     ///
-    /// Samples are whole numbers, each so many steps of the nanovolts that are shown
-    /// beside them. Every sample shown is the one that was stored: where a reference
+    /// Samples are whole numbers, in steps of the nanovolts that are shown beside them.
+    /// Every sample shown is the one that was stored: where a reference
     /// beat was subtracted it is added back. A lead that is refused is shown with its
     /// refusal and nothing else, and does not stop the others.
     ///
@@ -157,16 +164,16 @@ pub enum Command {
     /// number that some lead has; refusals go to standard error, and the lead's
     /// column is headed by its refusal and empty.
     ///
-    /// As JSON there is one object. Its refusal is null if the exit status is 0, and
-    /// else that of the record or of the first lead that is refused, with the place of
-    /// that as its lead; each lead that was read has its own refusal or null.
+    /// As JSON there is one object. Its verdict is that of the record, or else of the
+    /// first lead that is refused, whose place is then its lead; each lead that was
+    /// read has a verdict of its own.
     #[command(verbatim_doc_comment, after_help = ONE)]
     Samples {
         /// The record to show
         #[arg(value_name = "FILE")]
         file: PathBuf,
         /// The lead at this place alone, from 1
-        #[arg(long, value_name = "PLACE")]
+        #[arg(long, value_name = "PLACE", value_parser = place)]
         lead: Option<usize>,
         /// As CSV
         #[arg(long, conflicts_with = "json")]
@@ -179,16 +186,19 @@ pub enum Command {
     ///
     /// A record is accepted if it opens and every lead of it is read. One with neither
     /// Section 3 nor Section 6 has no lead to be read: it is accepted if it opens and
-    /// its code tables, if it has any, keep their rule. Of any other: the refusal, the
-    /// smallest of opening or else that of the first lead that is refused, with what
-    /// its rule asks and the first thing found; report shows all of it. At the end:
-    /// how many files were refused with each number.
+    /// its code tables, if it has any, keep their rule. Any other record is refused:
+    /// its line has the number, that of opening or else of the first lead that is
+    /// refused, with what the rule asks and the first thing found; report shows all of
+    /// it. At the end: how many files were refused with each number.
     ///
-    /// Of a folder every regular file is taken, whatever its name is, and every folder
-    /// in it, in the order of their names. A link is followed if it is given as PATH,
-    /// and passed over in a folder. Lines come in the order of the files, however many
-    /// are checked at once. As JSON there is an object in each line, and the last one
-    /// is the summary.
+    /// In a folder every regular file is checked, whatever its name is, and every folder
+    /// in it, in the order of their names. A link is followed if it is given as PATH.
+    /// In a folder links, FIFOs, sockets and devices are passed over, and the summary
+    /// counts them. If there is no file at all, as in a folder that is not mounted, the
+    /// exit status is 2. Each line is shown as soon as it and those before it are ready,
+    /// in the order of the files, however many are checked at once. Ctrl-C ends with
+    /// the summary of the files so far. As JSON there is an object in each line, and
+    /// the last one is the summary.
     #[command(verbatim_doc_comment, after_help = STATUS)]
     Check {
         /// The records, and folders of records; - is standard input
@@ -197,27 +207,29 @@ pub enum Command {
         /// Only those that are refused; the summary is of all
         #[arg(long)]
         refused: bool,
+        /// Do not fail if no file is found
+        #[arg(long)]
+        allow_empty: bool,
         /// As JSON, an object in each line
         #[arg(long)]
         json: bool,
-        /// How many files are checked at once; as many as there are cores, if not said
-        #[arg(long, value_name = "N", value_parser = value_parser!(u16).range(1..=JOBS_MAX))]
+        /// How many files to check at once; by default as many as there are cores
+        #[arg(long, value_name = "N", value_parser = jobs)]
         jobs: Option<u16>,
     },
     /// Show every rule that a record breaks
     ///
     /// The rules of refusals 1 to 9 are asked one by one, not only down to the first
-    /// that is broken; then every lead is read, and its answer shown. What was found
-    /// is said of each that is broken.
+    /// that is broken; then every lead is read, and its answer shown. For each rule
+    /// that is broken it is said what was found.
     ///
-    /// A rule is certain where those before it are kept. Of a record that breaks an
-    /// earlier one, the answer is a hint: bytes may stand elsewhere than it looks.
-    /// Of a record that is too long the first rule alone is asked: not all of it is
-    /// read.
+    /// The answer to a rule is certain where those before it are kept. Where an earlier
+    /// one is broken it is a hint: bytes may be elsewhere than it looks. If a record is
+    /// too long the first rule alone is asked, as not all of it is read.
     ///
-    /// As JSON there is one object. Its refusal is null if the exit status is 0, and
-    /// else that of the record or of the first lead that is refused, with the place of
-    /// that as its lead; each lead that was read has its own refusal or null.
+    /// As JSON there is one object. Its verdict is that of the record, or else of the
+    /// first lead that is refused, whose place is then its lead; each lead that was
+    /// read has a verdict of its own.
     #[command(verbatim_doc_comment, after_help = ONE)]
     Report {
         /// The record to report on
@@ -230,8 +242,8 @@ pub enum Command {
     /// Pack a record's leads into their shortest streams
     ///
     /// The leads are coded again by the record's own tables and difference order, each
-    /// into the shortest stream that is read to its samples. All else stays as it is,
-    /// and how many bytes that saved is told.
+    /// into the shortest stream that decodes to its samples. All else stays as it is.
+    /// The number of bytes that this saved is shown.
     ///
     /// A record that would lose something by it is left alone, with the reason: one
     /// with other sections than 0, 1, 2, 3 and 6, with more than twelve pointers or an
@@ -239,6 +251,8 @@ pub enum Command {
     /// bytes that are not all the same, or with reserved, spare or gap bytes that are
     /// not 0. Bits that fill up a stream's last byte are not counted: the stream is
     /// what is replaced.
+    ///
+    /// OUT gets the permissions of IN.
     #[command(verbatim_doc_comment, after_help = WRITING)]
     Pack {
         /// The record to pack; - is standard input
@@ -250,6 +264,9 @@ pub enum Command {
         /// Replace the file that is there
         #[arg(long)]
         force: bool,
+        /// Give OUT the modification time of IN
+        #[arg(long)]
+        preserve: bool,
     },
     /// Write a record from a job in JSON
     ///
@@ -270,6 +287,13 @@ pub enum Command {
         #[arg(long)]
         force: bool,
     },
+    /// Show this help, or that of a command
+    #[command(after_help = NONE)]
+    Help {
+        /// The command
+        #[arg(value_name = "COMMAND")]
+        command: Option<String>,
+    },
     /// Write the manual page, to be read by man
     ///
     /// For example: tigmavresh man >tigmavresh.1; man ./tigmavresh.1
@@ -287,9 +311,25 @@ pub enum Command {
 }
 
 /// A refusal, by its number.
-fn refusal() -> impl TypedValueParser<Value = Refusal> {
-    let numbers = 1..=i64::from(Refusal::COUNT);
-    value_parser!(u8).range(numbers).try_map(Refusal::try_from)
+fn refusal(text: &str) -> Result<Refusal, String> {
+    let number = text.parse::<u8>().ok();
+    let refusal = number.and_then(|number| Refusal::try_from(number).ok());
+    refusal.ok_or_else(|| format!("refusals are numbered 1 to {}", Refusal::COUNT))
+}
+
+/// How many files are checked at once.
+fn jobs(text: &str) -> Result<u16, String> {
+    let jobs = text
+        .parse()
+        .ok()
+        .filter(|jobs| (1..=JOBS_MAX).contains(jobs));
+    jobs.ok_or_else(|| format!("give a whole number from 1 to {JOBS_MAX}"))
+}
+
+/// The place of a lead. Whether there is one at it, the record says.
+fn place(text: &str) -> Result<usize, String> {
+    let place = text.parse().ok();
+    place.ok_or_else(|| "give the number of a lead, from 1".to_string())
 }
 
 #[cfg(test)]

@@ -1,4 +1,4 @@
-//! The files that paths name: a file itself, and every file in a folder.
+//! The files that paths name: a file itself, and every regular file in a folder.
 
 use std::io;
 use std::iter;
@@ -8,46 +8,75 @@ use walkdir::{DirEntry, WalkDir};
 
 use crate::input::{self, Reader};
 
-/// A file to be read, or what could not be looked into and why.
-pub type Listed = Result<PathBuf, (PathBuf, io::Error)>;
+/// Something that a path leads to.
+pub enum Listed {
+    /// A file to be read.
+    File(PathBuf),
+    /// A link in a folder, which is not followed.
+    Link,
+    /// A FIFO, a socket or a device in a folder, which is not read.
+    Special,
+    /// A path that could not be looked into, and why.
+    Unread(PathBuf, io::Error),
+}
+
+impl Listed {
+    /// Whether it counts as a file: whatever is not passed over.
+    pub fn is_counted(&self) -> bool {
+        matches!(self, Listed::File(_) | Listed::Unread(..))
+    }
+}
 
 /// The files of these paths, one after another, those of a folder in the order of their names. They are looked up as they are
 /// asked for, so that a great many take no room.
-pub fn listed(paths: &[PathBuf]) -> impl Iterator<Item = Listed> + '_ {
+pub fn listed(paths: Vec<PathBuf>) -> impl Iterator<Item = Listed> + Send {
     let mut reader = Reader::default();
-    paths.iter().flat_map(move |path| {
-        let claimed = reader.claim(path).map_err(|error| (path.clone(), error));
-        let itself = (claimed.is_err() || input::is_standard(path)).then(|| path.clone());
+    paths.into_iter().flat_map(move |path| {
+        let itself = match reader.claim(&path) {
+            Err(error) => Some(Listed::Unread(path.clone(), error)),
+            Ok(()) if input::is_standard(&path) => Some(Listed::File(path.clone())),
+            Ok(()) => None,
+        };
         let walked = itself.is_none().then(|| walked(path));
-        let itself = itself.map(|path| claimed.map(|()| path));
         itself.into_iter().chain(walked.into_iter().flatten())
     })
 }
 
-/// A path that is no folder, or every regular file in it. A link is followed here, where it was asked for, and nowhere in a
-/// folder: so no walk goes in circles.
-fn walked(path: &Path) -> impl Iterator<Item = Listed> + '_ {
-    let mut entries = WalkDir::new(path).sort_by_file_name().into_iter();
+/// A path that is no folder, or all that is in it. A link is followed here, where it was asked for, and nowhere in a folder:
+/// so no walk goes in circles.
+fn walked(path: PathBuf) -> impl Iterator<Item = Listed> + Send {
+    let mut entries = WalkDir::new(&path).sort_by_file_name().into_iter();
     iter::from_fn(move || loop {
         match entries.next()? {
-            Ok(entry) if is_taken(&entry) => return Some(Ok(entry.into_path())),
-            Ok(_) => {}
-            Err(error) => return Some(Err(reason(path, error))),
+            Ok(entry) if is_folder(&entry) => {}
+            Ok(entry) => return Some(listed_entry(entry)),
+            Err(error) => return Some(unread(&path, error)),
         }
     })
 }
 
-/// Whether an entry is read: in a folder a regular file, and whatever was asked for if it is no folder.
-fn is_taken(entry: &DirEntry) -> bool {
+/// Whether an entry is a folder that is walked through.
+fn is_folder(entry: &DirEntry) -> bool {
     match entry.depth() {
-        0 => !entry.path().is_dir(),
-        _ => entry.file_type().is_file(),
+        0 => entry.path().is_dir(),
+        _ => entry.file_type().is_dir(),
     }
 }
 
-/// What could not be looked into, below a path, and why.
-fn reason(path: &Path, error: walkdir::Error) -> (PathBuf, io::Error) {
+/// An entry that is no folder: whatever was asked for is read, and in a folder a regular file.
+fn listed_entry(entry: DirEntry) -> Listed {
+    let kind = entry.file_type();
+    match entry.depth() {
+        0 => Listed::File(entry.into_path()),
+        _ if kind.is_file() => Listed::File(entry.into_path()),
+        _ if kind.is_symlink() => Listed::Link,
+        _ => Listed::Special,
+    }
+}
+
+/// The path that could not be looked into, at or below a path, and why.
+fn unread(path: &Path, error: walkdir::Error) -> Listed {
     let path = error.path().unwrap_or(path).to_path_buf();
     let circle = || io::Error::other("links go in a circle");
-    (path, error.into_io_error().unwrap_or_else(circle))
+    Listed::Unread(path, error.into_io_error().unwrap_or_else(circle))
 }

@@ -1,11 +1,12 @@
 //! Reading a record from a file or from standard input.
 
 use std::fmt;
-use std::fs::File;
+use std::fs::{File, Metadata};
 use std::io::{self, Read};
 use std::mem;
 use std::path::Path;
 
+use crate::json;
 use crate::output::{parted, Output};
 
 /// The name that stands for standard input.
@@ -17,6 +18,8 @@ pub struct Input {
     pub bytes: Vec<u8>,
     /// How long the whole is.
     pub size: Size,
+    /// What the file system says of it, if it is a file.
+    pub metadata: Option<Metadata>,
 }
 
 /// How long an input is.
@@ -71,14 +74,20 @@ pub fn read(path: &Path) -> io::Result<Input> {
         return read_from(io::stdin().lock(), None);
     }
     let file = File::open(path)?;
-    let metadata = file.metadata()?;
-    read_from(file, metadata.is_file().then_some(metadata.len()))
+    let metadata = Some(file.metadata()?).filter(Metadata::is_file);
+    let input = read_from(file, metadata.as_ref().map(Metadata::len))?;
+    Ok(Input { metadata, ..input })
 }
 
-/// Reads a file, or standard input; if it cannot be read, that is complained of.
-pub fn read_or_complain(path: &Path, output: &mut Output) -> Option<Input> {
-    let read = read(path);
-    read.map_err(|error| output.complain(path, &error)).ok()
+/// Reads a file, or standard input; if it cannot be read, that is complained of, and is said in JSON where that is asked for.
+pub fn read_or_complain(path: &Path, json: bool, output: &mut Output) -> Option<Input> {
+    let complain = |error| {
+        if json {
+            output.line(json::text(&json::unread(path, &error)));
+        }
+        output.complain(path, &error);
+    };
+    read(path).map_err(complain).ok()
 }
 
 /// Reads one byte more than the longest record has, at most: that is enough to see it refused. `known` is the length
@@ -93,7 +102,11 @@ fn read_from(source: impl Read, known: Option<u64>) -> io::Result<Input> {
         Some(length) => Size::Exactly(length.max(read)),
         None => Size::Over(bound),
     };
-    Ok(Input { bytes, size })
+    Ok(Input {
+        bytes,
+        size,
+        metadata: None,
+    })
 }
 
 #[cfg(test)]

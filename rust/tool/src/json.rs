@@ -1,64 +1,216 @@
-//! What is shown, as JSON.
+//! The answers as JSON: docs/output.schema.json says their shape.
 
 use std::collections::BTreeMap;
+use std::io;
 use std::path::Path;
 
-use scp::{Entry, Refusal};
+use scp::Entry;
 use serde::Serialize;
 use serde_json::value::{to_raw_value, RawValue};
 
-use crate::input::{Input, Size};
+use crate::input::Size;
 use crate::names;
-use crate::output::hex;
+use crate::output::{hex, reason};
 use crate::reading::Reading;
-use crate::refused;
+use crate::refused::{self, Refused};
 use crate::tally::Tally;
-use crate::verdict::Verdict;
+use crate::verdict::Word;
 
-/// A file's name.
+/// A file: the verdict on it, and what it holds where that is shown.
 #[derive(Serialize)]
-struct Name {
+pub struct About<T> {
     file: String,
-    /// Its bytes in hex, where they are no text.
+    /// The name's bytes in hex, where they are no text.
     #[serde(skip_serializing_if = "Option::is_none")]
     file_bytes: Option<String>,
-}
-
-/// A file and how long it is.
-#[derive(Serialize)]
-pub struct Sized {
-    #[serde(flatten)]
-    name: Name,
-    /// Absent if it is not known.
+    /// How long it is, where that is known.
     #[serde(skip_serializing_if = "Option::is_none")]
     bytes: Option<u64>,
-}
-
-/// A record: what it says of its leads, or its refusal. The refusal of the first lead that is refused stands for the record.
-#[derive(Serialize)]
-pub struct Record {
     #[serde(flatten)]
-    file: Sized,
-    refusal: Option<Refused>,
+    decision: Decision,
     /// The place of the lead that the refusal is of, if it is of one.
     #[serde(skip_serializing_if = "Option::is_none")]
     lead: Option<usize>,
+    /// Why it could not be read.
+    #[serde(skip_serializing_if = "Option::is_none")]
+    error: Option<String>,
     #[serde(flatten)]
-    rhythm: Option<Rhythm>,
-    /// Whose word a refusal is, if there is one.
+    content: Option<T>,
+    /// Who decided, and who explains.
     #[serde(skip_serializing_if = "Option::is_none")]
     note: Option<&'static str>,
 }
 
-/// What all leads have in common, and the leads.
+/// The decision on a record or on a lead.
+#[derive(Clone, Serialize)]
+pub struct Decision {
+    verdict: Word,
+    refusal: Option<u8>,
+    /// The rule in words, where it is broken.
+    #[serde(skip_serializing_if = "Option::is_none")]
+    rule: Option<&'static str>,
+    #[serde(skip_serializing_if = "Vec::is_empty")]
+    found: Vec<String>,
+}
+
+impl Decision {
+    /// Accepted, or refused.
+    pub fn of(refused: Option<&Refused>) -> Decision {
+        match refused {
+            None => Decision::without_refusal(Word::Accepted),
+            Some(refused) => Decision {
+                verdict: refused.word,
+                refusal: Some(refused.refusal.number()),
+                rule: (refused.word == Word::Refused).then(|| refused.refusal.words()),
+                found: refused.found.clone(),
+            },
+        }
+    }
+
+    fn without_refusal(verdict: Word) -> Decision {
+        Decision {
+            verdict,
+            refusal: None,
+            rule: None,
+            found: Vec::new(),
+        }
+    }
+}
+
+impl<T> About<T> {
+    fn new(file: &Path, decision: Decision) -> About<T> {
+        About {
+            file: file.to_string_lossy().into_owned(),
+            file_bytes: match file.to_str() {
+                Some(_) => None,
+                None => Some(hex(file.as_os_str().as_encoded_bytes())),
+            },
+            bytes: None,
+            decision,
+            lead: None,
+            error: None,
+            content: None,
+            note: None,
+        }
+    }
+
+    /// A file of this size that was accepted or refused.
+    pub fn judged(file: &Path, size: Size, refused: Option<&Refused>) -> About<T> {
+        About {
+            bytes: match size {
+                Size::Exactly(bytes) => Some(bytes),
+                Size::Over(_) => None,
+            },
+            ..About::new(file, Decision::of(refused))
+        }
+    }
+
+    /// The same where the refusal is of the lead at a place.
+    pub fn of_lead(mut self, place: Option<usize>) -> About<T> {
+        self.lead = place;
+        self
+    }
+
+    /// The same with what the file holds.
+    pub fn holding(mut self, content: Option<T>) -> About<T> {
+        self.content = content;
+        self
+    }
+
+    /// The same with a note on who decided, if something was explained: for an object that is not one of many.
+    pub fn noted(mut self) -> About<T> {
+        self.note = (self.decision.verdict == Word::Refused).then_some(refused::NOTE);
+        self
+    }
+}
+
+/// No content.
 #[derive(Serialize)]
-struct Rhythm {
+pub struct Nothing {}
+
+/// A file that could not be read, and why.
+pub fn unread(file: &Path, error: &io::Error) -> About<Nothing> {
+    About {
+        error: Some(reason(error)),
+        ..About::new(file, Decision::without_refusal(Word::Unread))
+    }
+}
+
+/// The content that `check` shows of a record that was accepted.
+#[derive(Serialize)]
+pub struct Counted {
+    pub lead_count: usize,
+}
+
+/// The content that `open` shows.
+#[derive(Serialize)]
+pub struct Pointers {
+    pub pointers: Vec<Pointer>,
+}
+
+/// A pointer, as it is stored.
+#[derive(Serialize)]
+pub struct Pointer {
+    id: u16,
+    name: &'static str,
+    length: u32,
+    index: u32,
+    present: bool,
+}
+
+impl From<&scp::Pointer> for Pointer {
+    fn from(pointer: &scp::Pointer) -> Pointer {
+        Pointer {
+            id: pointer.id,
+            name: names::section(pointer.id),
+            length: pointer.length,
+            index: pointer.index,
+            present: pointer.is_present(),
+        }
+    }
+}
+
+/// The content that `fields` shows.
+#[derive(Serialize)]
+pub struct Header {
+    pub fields: Vec<Field>,
+}
+
+/// A header field.
+#[derive(Serialize)]
+pub struct Field {
+    pub tag: u8,
+    pub name: &'static str,
+    pub length: usize,
+    /// In hex.
+    pub bytes: String,
+    #[serde(flatten)]
+    pub reading: Reading,
+}
+
+/// The content that `leads` and `samples` show: what all leads have in common, and the leads.
+#[derive(Serialize)]
+pub struct Rhythm {
     flags: u8,
     reference_beat_subtracted: bool,
     step_nanovolts: u16,
     interval_microseconds: u16,
     difference_order: u8,
     leads: Vec<Lead>,
+}
+
+impl Rhythm {
+    /// These leads, of which the first says what all have in common.
+    pub fn new(first: &Entry, leads: Vec<Lead>) -> Rhythm {
+        Rhythm {
+            flags: first.flags,
+            reference_beat_subtracted: first.had_beat_subtracted(),
+            step_nanovolts: first.step,
+            interval_microseconds: first.interval,
+            difference_order: first.order,
+            leads,
+        }
+    }
 }
 
 /// A lead.
@@ -72,36 +224,12 @@ pub struct Lead {
     count: usize,
     bytes: usize,
     bits_a_sample: f64,
-    /// Absent where the lead's stream was not read; null where it was, and accepted.
-    #[serde(skip_serializing_if = "Option::is_none")]
-    refusal: Option<Option<Refused>>,
+    /// Absent where the lead's stream was not read.
+    #[serde(flatten)]
+    decision: Option<Decision>,
     /// In one line, however many there are.
     #[serde(skip_serializing_if = "Option::is_none")]
     samples: Option<Box<RawValue>>,
-}
-
-/// A refusal.
-#[derive(Clone, Serialize)]
-pub struct Refused {
-    number: u8,
-    rule: &'static str,
-    found: Vec<String>,
-}
-
-impl Refused {
-    /// A refusal with what was found, where the lead at a place was asked for.
-    pub fn new(input: &Input, place: usize, refusal: Refusal) -> Refused {
-        Refused::with(refusal, refused::found(input, place, refusal))
-    }
-
-    /// A refusal with this that was found.
-    pub fn with(refusal: Refusal, found: Vec<String>) -> Refused {
-        Refused {
-            number: refusal.number(),
-            rule: refusal.words(),
-            found,
-        }
-    }
 }
 
 impl Lead {
@@ -116,232 +244,34 @@ impl Lead {
             count: entry.count(),
             bytes: entry.bytes,
             bits_a_sample: bits_in_hundredths(entry) as f64 / 100.0,
-            refusal: None,
+            decision: None,
             samples: None,
         }
     }
 
-    /// The same with its samples, or its refusal.
-    pub fn with(mut self, read: Result<&[i16], Refused>) -> Lead {
-        self.samples = read.as_ref().ok().and_then(|all| to_raw_value(all).ok());
-        self.answered(read.err())
+    /// The same with its refusal, or without one, its stream having been read.
+    pub fn answered(mut self, refused: Option<&Refused>) -> Lead {
+        self.decision = Some(Decision::of(refused));
+        self
     }
 
-    /// The same with its refusal, or without one, its stream having been read.
-    pub fn answered(mut self, refusal: Option<Refused>) -> Lead {
-        self.refusal = Some(refusal);
+    /// The same with its samples.
+    pub fn with(mut self, samples: &[i16]) -> Lead {
+        self.samples = to_raw_value(samples).ok();
         self
     }
 }
 
-impl Record {
-    /// A record with these leads, of which the first says what all have in common.
-    pub fn with(file: &Path, input: &Input, first: &Entry, leads: Vec<Lead>) -> Record {
-        let refused = |lead: &Lead| Some((lead.place, lead.refusal.clone()??));
-        let (lead, refusal) = leads.iter().find_map(refused).unzip();
-        Record {
-            note: refusal.is_some().then_some(refused::NOTE),
-            refusal,
-            lead,
-            rhythm: Some(Rhythm {
-                flags: first.flags,
-                reference_beat_subtracted: first.had_beat_subtracted(),
-                step_nanovolts: first.step,
-                interval_microseconds: first.interval,
-                difference_order: first.order,
-                leads,
-            }),
-            ..Record::new(file, input)
-        }
-    }
-
-    /// A record that is refused.
-    pub fn refused(file: &Path, input: &Input, refused: Refused) -> Record {
-        Record {
-            refusal: Some(refused),
-            note: Some(refused::NOTE),
-            ..Record::new(file, input)
-        }
-    }
-
-    fn new(file: &Path, input: &Input) -> Record {
-        Record {
-            file: Sized::new(file, input.size),
-            refusal: None,
-            lead: None,
-            rhythm: None,
-            note: None,
-        }
-    }
-}
-
-impl Name {
-    fn new(file: &Path) -> Name {
-        Name {
-            file: file.to_string_lossy().into_owned(),
-            file_bytes: match file.to_str() {
-                Some(_) => None,
-                None => Some(hex(file.as_os_str().as_encoded_bytes())),
-            },
-        }
-    }
-}
-
-impl Sized {
-    /// A file of this size.
-    pub fn new(file: &Path, size: Size) -> Sized {
-        Sized {
-            name: Name::new(file),
-            bytes: match size {
-                Size::Exactly(bytes) => Some(bytes),
-                Size::Over(_) => None,
-            },
-        }
-    }
-}
-
-/// A record that was checked: so many leads, or its refusal and, if it is of one lead, the place of that.
-#[derive(Serialize)]
-pub struct Checked {
-    #[serde(flatten)]
-    file: Sized,
-    refusal: Option<Refused>,
-    #[serde(skip_serializing_if = "Option::is_none")]
-    lead: Option<usize>,
-    #[serde(skip_serializing_if = "Option::is_none")]
-    lead_count: Option<usize>,
-}
-
-impl Checked {
-    /// A record with the verdict on it and what was found.
-    pub fn new(file: &Path, size: Size, verdict: Verdict, found: Vec<String>) -> Checked {
-        let (refusal, lead, lead_count) = match verdict {
-            Verdict::Accepted { leads } => (None, None, Some(leads)),
-            Verdict::Refused { refusal, lead } => (Some(Refused::with(refusal, found)), lead, None),
-        };
-        Checked {
-            file: Sized::new(file, size),
-            refusal,
-            lead,
-            lead_count,
-        }
-    }
-}
-
-/// A record that was opened: its pointers, or its refusal.
-#[derive(Serialize)]
-pub struct Opened {
-    #[serde(flatten)]
-    file: Sized,
-    refusal: Option<Refused>,
-    #[serde(skip_serializing_if = "Option::is_none")]
-    pointers: Option<Vec<Pointer>>,
-}
-
-/// A pointer, as it is stored.
-#[derive(Serialize)]
-struct Pointer {
-    id: u16,
-    name: &'static str,
-    length: u32,
-    index: u32,
-    present: bool,
-}
-
-impl Opened {
-    /// A record with what opening it answered.
-    pub fn new(file: &Path, input: &Input, opened: Result<&[scp::Pointer], Refusal>) -> Opened {
-        let (pointers, refusal) = told(input, opened, Pointer::new);
-        Opened {
-            file: Sized::new(file, input.size),
-            refusal,
-            pointers,
-        }
-    }
-}
-
-impl Pointer {
-    fn new(pointer: &scp::Pointer) -> Pointer {
-        Pointer {
-            id: pointer.id,
-            name: names::section(pointer.id),
-            length: pointer.length,
-            index: pointer.index,
-            present: pointer.is_present(),
-        }
-    }
-}
-
-/// A record's header fields in their order, or its refusal.
-#[derive(Serialize)]
-pub struct Header {
-    #[serde(flatten)]
-    file: Sized,
-    refusal: Option<Refused>,
-    #[serde(skip_serializing_if = "Option::is_none")]
-    fields: Option<Vec<Field>>,
-    #[serde(skip_serializing_if = "Option::is_none")]
-    note: Option<&'static str>,
-}
-
-/// A header field.
-#[derive(Serialize)]
-pub struct Field {
-    pub tag: u8,
-    pub name: &'static str,
-    pub length: usize,
-    /// In hex.
-    pub bytes: String,
-    /// By a name of its own.
-    #[serde(flatten)]
-    pub reading: Option<Reading>,
-}
-
-impl Header {
-    /// A record with its fields, each told by a function, or its refusal.
-    pub fn new(
-        file: &Path,
-        input: &Input,
-        fields: Result<&[scp::Field], Refusal>,
-        field: impl Fn(&scp::Field) -> Field,
-    ) -> Header {
-        let (fields, refusal) = told(input, fields, field);
-        Header {
-            file: Sized::new(file, input.size),
-            note: refusal.is_some().then_some(refused::NOTE),
-            refusal,
-            fields,
-        }
-    }
-}
-
-/// Each thing that a record has, told by a function, or the record's refusal.
-fn told<T, U>(
-    input: &Input,
-    answer: Result<&[T], Refusal>,
-    tell: impl Fn(&T) -> U,
-) -> (Option<Vec<U>>, Option<Refused>) {
-    match answer {
-        Ok(all) => (Some(all.iter().map(tell).collect()), None),
-        Err(refusal) => (None, Some(Refused::new(input, 1, refusal))),
-    }
-}
-
-/// All that was asked of a record: the verdict, each rule, each lead.
+/// The content that `report` shows: each rule, each lead.
 #[derive(Serialize)]
 pub struct Report {
     #[serde(flatten)]
-    pub verdict: Checked,
-    /// What was found of the file as a whole, if anything was.
-    #[serde(skip_serializing_if = "Vec::is_empty")]
-    pub found: Vec<String>,
+    pub counted: Option<Counted>,
     pub rules: Vec<Rule>,
     pub leads: Vec<Lead>,
-    /// What is not certain, if something is not.
+    /// Which answers are not certain, if some are not.
     #[serde(skip_serializing_if = "Option::is_none")]
     pub caution: Option<String>,
-    #[serde(skip_serializing_if = "Option::is_none")]
-    pub note: Option<&'static str>,
 }
 
 /// A rule that was asked alone.
@@ -353,24 +283,6 @@ pub struct Rule {
     /// Whether every rule before it is kept.
     pub certain: bool,
     pub found: Vec<String>,
-}
-
-/// A file that could not be read.
-#[derive(Serialize)]
-pub struct Unread {
-    #[serde(flatten)]
-    name: Name,
-    error: String,
-}
-
-impl Unread {
-    /// A file, and why it could not be read.
-    pub fn new(file: &Path, error: String) -> Unread {
-        Unread {
-            name: Name::new(file),
-            error,
-        }
-    }
 }
 
 /// How many files fared how, as the last line of many.
@@ -386,8 +298,17 @@ struct Counts {
     files: usize,
     accepted: usize,
     refused: usize,
-    not_read: usize,
+    unread: usize,
+    interrupted: bool,
+    passed_over: PassedOver,
     by_number: BTreeMap<u8, usize>,
+}
+
+/// Entries of folders that were passed over.
+#[derive(Serialize)]
+struct PassedOver {
+    links: usize,
+    special_files: usize,
 }
 
 impl Summary {
@@ -398,7 +319,12 @@ impl Summary {
                 files: tally.files(),
                 accepted: tally.accepted,
                 refused: tally.refused(),
-                not_read: tally.not_read,
+                unread: tally.not_read,
+                interrupted: tally.is_interrupted,
+                passed_over: PassedOver {
+                    links: tally.links,
+                    special_files: tally.special_files,
+                },
                 by_number: tally.by_number().collect(),
             },
             note: (tally.refused() > 0).then_some(refused::NOTE),
@@ -406,13 +332,13 @@ impl Summary {
     }
 }
 
-/// What is told, in one line.
+/// An object in one line.
 pub fn line(told: &impl Serialize) -> String {
     // Numbers, strings and lists of them: there is nothing that could fail.
     serde_json::to_string(told).expect("it can be told in JSON")
 }
 
-/// What is told, in several lines.
+/// An object in several lines.
 pub fn text(told: &impl Serialize) -> String {
     serde_json::to_string_pretty(told).expect("it can be told in JSON")
 }

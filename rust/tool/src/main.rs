@@ -7,13 +7,16 @@
 mod cli;
 mod closed;
 mod commands;
+mod escape;
 mod explain;
 mod files;
 mod input;
+mod interrupt;
 mod job;
 mod json;
 mod making;
 mod names;
+mod ordered;
 mod output;
 mod reading;
 mod refused;
@@ -30,7 +33,8 @@ use std::process::ExitCode;
 use clap::Parser;
 
 use cli::{Cli, Command};
-use commands::check::Asked;
+use commands::check;
+use commands::pack;
 use commands::samples::Form;
 use output::Output;
 use status::Status;
@@ -39,7 +43,10 @@ fn main() -> ExitCode {
     let mut output = Output::standard();
     let asked = match Cli::try_parse() {
         Ok(asked) => asked,
-        Err(told) => return end(&told, output).into(),
+        Err(told) => {
+            let status = tell(&told, &mut output);
+            return output.end(status).into();
+        }
     };
     let status = match (asked.explain, asked.command) {
         (Some(refusal), _) => rules::show(refusal, &mut output),
@@ -50,14 +57,25 @@ fn main() -> ExitCode {
     output.end(status).into()
 }
 
-/// Ends where the command line asks for help or for the version, or is not understood.
-fn end(told: &clap::Error, mut output: Output) -> Status {
+/// Tells of a command line that asks for help or for the version, or is not understood.
+fn tell(told: &clap::Error, output: &mut Output) -> Status {
     if told.use_stderr() {
         let _ = told.print();
         return Status::NotDone;
     }
     output.write(|to| write!(to, "{}", told.render()));
-    output.end(Status::Accepted)
+    Status::Accepted
+}
+
+/// Shows the help of the tool, or of a command: what --help shows.
+fn help(command: Option<String>, output: &mut Output) -> Status {
+    let words = ["tigmavresh".to_string()].into_iter().chain(command);
+    let words = words.chain(["--help".to_string()]);
+    match Cli::try_parse_from(words) {
+        Err(told) => tell(&told, output),
+        // the words ask for help, and for nothing else
+        Ok(_) => Status::NotDone,
+    }
 }
 
 /// Does what a command asks for.
@@ -75,12 +93,29 @@ fn run(command: Command, output: &mut Output) -> Status {
         Command::Check {
             paths,
             refused,
+            allow_empty,
             json,
             jobs,
-        } => commands::check::run(&paths, Asked { refused, json }, jobs, output),
+        } => {
+            let asked = check::Asked {
+                refused,
+                json,
+                allow_empty,
+            };
+            check::run(&paths, asked, jobs, output)
+        }
         Command::Report { file, json } => commands::report::run(&file, json, output),
-        Command::Pack { file, out, force } => commands::pack::run(&file, &out, force, output),
+        Command::Pack {
+            file,
+            out,
+            force,
+            preserve,
+        } => {
+            let asked = pack::Asked { force, preserve };
+            pack::run(&file, &out, asked, output)
+        }
         Command::Write { job, out, force } => commands::write::run(&job, &out, force, output),
+        Command::Help { command } => help(command, output),
         Command::Man => commands::man::run(output),
         Command::Completions { shell } => commands::completions::run(shell, output),
     }

@@ -5,6 +5,7 @@ use std::io::{self, BufWriter, ErrorKind, Stdout, Write};
 use std::path::Path;
 
 use crate::closed;
+use crate::escape::escaped;
 use crate::input;
 use crate::status::Status;
 
@@ -81,7 +82,7 @@ impl Output {
         self.flush();
         match self.failed {
             Some(error) if error.kind() != ErrorKind::BrokenPipe => {
-                complain(&format!("standard output: {}", reason(&error)));
+                complain(&format!("{OUTPUT}: {}", reason(&error)));
                 Status::NotDone
             }
             _ => status,
@@ -101,28 +102,26 @@ fn complain(line: &str) {
     let _ = writeln!(io::stderr(), "tigmavresh: {line}");
 }
 
-/// The name of a file as it is shown: one line, whatever characters it has, with the bytes that are no text in hex.
+/// The names that standard input and standard output are shown by.
+const INPUT: &str = "standard input";
+const OUTPUT: &str = "standard output";
+
+/// The name of a file as it is shown: one line, whatever characters it has, and no two names alike.
 pub fn shown(file: &Path) -> String {
     if input::is_standard(file) {
-        return "standard input".to_string();
+        return INPUT.to_string();
     }
-    let mut name = String::new();
-    for part in file.as_os_str().as_encoded_bytes().utf8_chunks() {
-        for letter in part.valid().chars() {
-            match letter.is_control() {
-                true => name.extend(letter.escape_default()),
-                false => name.push(letter),
-            }
-        }
-        name.extend(part.invalid().iter().map(|byte| format!("\\x{byte:02X}")));
+    let name = escaped(file.as_os_str().as_encoded_bytes());
+    match [INPUT, OUTPUT].contains(&name.as_str()) {
+        true => name.replace(' ', "\\x20"),
+        false => name,
     }
-    name
 }
 
 /// The name of a file that is written, as it is shown.
 pub fn shown_target(file: &Path) -> String {
     match input::is_standard(file) {
-        true => "standard output".to_string(),
+        true => OUTPUT.to_string(),
         false => shown(file),
     }
 }
@@ -190,6 +189,9 @@ mod tests {
         assert_eq!(shown(Path::new("a\n\u{1b}[1m.scp")), "a\\n\\u{1b}[1m.scp");
         assert_eq!(shown(Path::new("-")), "standard input");
         assert_eq!(shown(Path::new("./-")), "./-");
+        assert_eq!(shown(Path::new("standard input")), "standard\\x20input");
+        assert_eq!(shown(Path::new("a\\n.scp")), "a\\\\n.scp");
+        assert_eq!(shown(Path::new("\u{202e}pcs.a")), "\\u{202e}pcs.a");
         let latin = OsStr::from_bytes(b"M\xFCller\xC3.scp");
         assert_eq!(shown(Path::new(latin)), "M\\xFCller\\xC3.scp");
     }

@@ -7,42 +7,90 @@ use scp::Refusal;
 use crate::explain::{self, Looked};
 use crate::input::Input;
 use crate::output::{shown, Output};
+use crate::verdict::{self, Word};
 
 /// How many things found are shown; a record can break one rule in a great many places.
 const FOUND_SHOWN: usize = 8;
 
-/// What a rule's words are headed by, so that nobody takes them for what was found.
+/// The label of a rule's words, so that nobody takes them for what was found.
 pub const BROKEN: &str = "rule broken";
 
-/// Whose word a refusal is, and whose its explanation.
-pub const NOTE: &str = "The refusal is the proved library's; what was found is the tool's own look at the bytes, to explain it.";
+/// Who decided, and who explains.
+pub const NOTE: &str = "The proved library decided; the explanation is not proved.";
 
-/// The same of a job.
-pub const JOB_NOTE: &str = "The refusal is the proved library's; what was found is the tool's own look at the job, to explain it.";
-
-/// Shows a refusal: its number, what its rule asks, and what was found.
-pub fn show(file: &Path, input: &Input, refusal: Refusal, output: &mut Output) {
-    show_asked(file, input, 1, refusal, output);
+/// A refusal of a record or of one of its leads, for people: its number and why.
+#[derive(Clone)]
+pub struct Refused {
+    pub refusal: Refusal,
+    /// Refused, or absent: a record that has not what is asked for may be sound.
+    pub word: Word,
+    /// The things found, at least one.
+    pub found: Vec<String>,
 }
 
-/// Shows a refusal where the lead at a place was asked for.
-pub fn show_asked(file: &Path, input: &Input, place: usize, refusal: Refusal, output: &mut Output) {
-    output.line(heading(file, input, refusal));
-    output.lines(lines(input, place, refusal));
+impl Refused {
+    /// A refusal where the lead at a place was asked for.
+    pub fn of(input: &Input, place: usize, refusal: Refusal) -> Refused {
+        if let Some(absent) = verdict::absent(&input.bytes, place, refusal) {
+            return Refused {
+                refusal,
+                word: Word::Absent,
+                found: vec![absent],
+            };
+        }
+        let foreign = explain::foreign(&input.bytes).into_iter();
+        let found = explain::found(&Looked::at(input, place), refusal);
+        Refused {
+            refusal,
+            word: Word::Refused,
+            found: foreign.chain(found).collect(),
+        }
+    }
+
+    /// The same with as little as says what is wrong: the first thing found, after that the file looks like no record at all.
+    pub fn in_short(mut self, input: &Input) -> Refused {
+        self.found
+            .truncate(1 + usize::from(explain::foreign(&input.bytes).is_some()));
+        self
+    }
+
+    /// The line that starts what is shown of it.
+    pub fn heading(&self, file: &Path, input: &Input) -> String {
+        let (name, number, size) = (shown(file), self.refusal.number(), input.size);
+        match self.word {
+            Word::Absent => format!(
+                "{name}: absent, number {number} ({size}): {}",
+                self.found[0]
+            ),
+            _ => format!("{name}: refused, number {number} ({size})"),
+        }
+    }
+
+    /// The lines below that: what the rule asks, and what was found.
+    pub fn lines(&self) -> Vec<String> {
+        match self.word {
+            Word::Absent => Vec::new(),
+            _ => told(self.refusal, &self.found),
+        }
+    }
+
+    /// Who decided, where something was explained.
+    pub fn note(&self) -> Option<&'static str> {
+        (self.word == Word::Refused).then_some(NOTE)
+    }
+
+    /// All of it, in lines.
+    pub fn text(&self, file: &Path, input: &Input) -> Vec<String> {
+        let mut lines = vec![self.heading(file, input)];
+        lines.extend(self.lines());
+        if let Some(note) = self.note() {
+            lines.extend([String::new(), note.to_string()]);
+        }
+        lines
+    }
 }
 
-/// The line that a refusal of a record starts with.
-pub fn heading(file: &Path, input: &Input, refusal: Refusal) -> String {
-    let (name, number, size) = (shown(file), refusal.number(), input.size);
-    format!("{name}: refused, number {number} ({size})")
-}
-
-/// What the rule asks, and what was found, in lines. The place is that of the lead that was asked for.
-pub fn lines(input: &Input, place: usize, refusal: Refusal) -> Vec<String> {
-    told(refusal, &found(input, place, refusal))
-}
-
-/// What the rule asks, and this that was found, in lines.
+/// The rule in words and this that was found, in lines.
 pub fn told(refusal: Refusal, found: &[String]) -> Vec<String> {
     let mut lines = vec![line(BROKEN, refusal.words())];
     lines.extend(found_lines(found));
@@ -69,12 +117,7 @@ fn line(label: &str, words: &str) -> String {
     format!("  {label:width$}  {words}", width = BROKEN.len())
 }
 
-/// All that was found.
-pub fn found(input: &Input, place: usize, refusal: Refusal) -> Vec<String> {
-    explain::found(&Looked::at(input, place), refusal)
-}
-
-/// Says whose word a refusal is, and whose its explanation.
+/// Says who decided, and who explains.
 pub fn footnote(output: &mut Output) {
     output.block();
     output.line(NOTE);

@@ -13,13 +13,15 @@ struct Rule {
     words: &'static str,
     /// A record, or a job, that is refused.
     example: &'static str,
-    /// Which commands give it.
+    /// Which commands give it, in a sentence.
     given: &'static str,
 }
 
-const READING: &str = "every command that reads a record";
-const LEADS: &str = "leads, samples, check, report and pack";
-const STREAMS: &str = "samples, check, report and pack, each lead by itself";
+const READING: &str = "Given by every command that reads a record.";
+const LEADS: &str = "Given by leads, samples, check, report and pack.";
+const LIBRARY: &str = "Only programs that call the library see this.";
+const STREAMS: &str = "Given by samples, check, report and pack, for each lead by itself.";
+const WRITING: &str = "Given by write.";
 
 /// The refusals from 1.
 const RULES: [Rule; Refusal::COUNT as usize] = [
@@ -84,7 +86,7 @@ mark FF 00 00 with at most one byte after it. Tags 2, 14, 25 and 26 stand once e
 Tag 25, the date, has 4 bytes, and tag 26, the time, has 3. Tag 2, the patient
 identifier, has 2 to 64 bytes, the last of which is its only NUL.",
         example: "the identifier of samples/refused-6.scp has no NUL at its end.",
-        given: "every command that reads a record, and write",
+        given: "Given by every command that reads a record, and by write.",
     },
     Rule {
         name: "Section 2",
@@ -95,7 +97,7 @@ of its table; a remainder has at most 16; a switch leads to a table that is ther
         example: "\
 in table 2 of samples/refused-7.scp the prefix 10 begins the
 prefix 101.",
-        given: "leads, samples, check, report and pack, and write",
+        given: "Given by leads, samples, check, report, pack and write.",
     },
     Rule {
         name: "Sections 3 to 6",
@@ -121,9 +123,9 @@ apart, and those of the leads 2000 us.",
     Rule {
         name: "what is asked for",
         words: "\
-There is no lead at this place of Section 3, or no Section 3 or 6, or no field of
-this tag. A record with neither Section 3 nor Section 6 has no lead at all, and
-check accepts it.",
+The record has no lead at this place, or no field of this tag. A record with neither
+Section 3 nor Section 6 has no leads: check accepts it, and the commands that need
+leads call them absent. A record with one of these sections alone is refused.",
         example: "samples/refused-10.scp has Section 3 and no Section 6.",
         given: LEADS,
     },
@@ -133,7 +135,7 @@ check accepts it.",
 A program that called the library lent it less room than the answer takes, or less
 work space than the work does. This tool always lends enough.",
         example: "a lead of 8 samples is read into room for 7.",
-        given: "no command, but the library",
+        given: LIBRARY,
     },
     Rule {
         name: "codes",
@@ -168,12 +170,12 @@ too many, and 12 bits are left.",
     Rule {
         name: "streams",
         words: "\
-A record is to be written, and no stream of codes is read to the samples of some
-lead: its tables have no code for some difference, or that does not fit 16 bits.",
+A record is to be written, and the samples of some lead cannot be encoded with these
+tables: they have no code for some difference, or that does not fit 16 bits.",
         example: "\
 by differences of order 2, the samples -32,768, 32,767 and -32,768
 have -131,070 as their third value.",
-        given: "write",
+        given: WRITING,
     },
     Rule {
         name: "lengths written",
@@ -183,7 +185,7 @@ bytes, or the record over 1,048,576.",
         example: "\
 without code tables each sample takes two bytes, so that a lead of
 32,768 samples has 65,536.",
-        given: "write",
+        given: WRITING,
     },
     Rule {
         name: "the writer's bounds",
@@ -192,7 +194,7 @@ A record is to be written, and it does not have 1 to 32 leads of 1 to 65,536 sam
 each, an order of 0 to 2, a step and an interval over 0, and sample numbers from 1
 that fit 32 bits; or the samples are not as many as the leads count together.",
         example: "a job that has no lead.",
-        given: "write",
+        given: WRITING,
     },
 ];
 
@@ -211,7 +213,7 @@ pub fn show(refusal: Refusal, output: &mut Output) -> Status {
         output.block();
         output.line(format_args!("For example, {}", rule.example));
         output.block();
-        output.line(format_args!("Given by {}.", rule.given));
+        output.line(rule.given);
     }
     Status::Accepted
 }

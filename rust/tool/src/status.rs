@@ -11,6 +11,8 @@ pub enum Status {
     Refused = 1,
     /// Some of the work could not be done.
     NotDone = 2,
+    /// The user interrupted it: as a shell has it, 128 and the number of the signal.
+    Interrupted = 130,
 }
 
 impl From<Status> for ExitCode {

@@ -1,9 +1,11 @@
 //! Putting a record where it is asked for: whole or not at all.
 
-use std::fs::{self, File, Permissions};
+use std::fs::{self, File, Metadata, Permissions};
 use std::io::{self, ErrorKind, IsTerminal, Write};
+use std::os::unix::fs::{OpenOptionsExt, PermissionsExt};
 use std::path::{Path, PathBuf};
 use std::process;
+use std::time::SystemTime;
 
 use crate::closed;
 use crate::input;
@@ -11,6 +13,31 @@ use crate::output::{shown, Output};
 
 /// How many names are tried for a temporary file.
 const NAMES: usize = 100;
+
+/// The bits of a file's mode that are taken over: who may read, write and execute it.
+const MODE: u32 = 0o777;
+/// The mode of a file until it has its own: its owner's alone.
+const PRIVATE: u32 = 0o600;
+
+/// A file's permissions and modification time.
+#[derive(Default)]
+pub struct Traits {
+    /// Else those of the file that is replaced, or what the system gives a new file.
+    permissions: Option<Permissions>,
+    /// Else the time at which it is written.
+    modified: Option<SystemTime>,
+}
+
+impl Traits {
+    /// The permissions of another file, and its modification time if that is to be preserved.
+    pub fn of(file: &Metadata, preserve: bool) -> io::Result<Traits> {
+        let mode = file.permissions().mode() & MODE;
+        Ok(Traits {
+            permissions: Some(Permissions::from_mode(mode)),
+            modified: preserve.then(|| file.modified()).transpose()?,
+        })
+    }
+}
 
 /// Where a record is to be put.
 pub enum Target {
@@ -71,10 +98,10 @@ impl Target {
             metadata => metadata?,
         };
         if !metadata.is_file() {
-            return Err(io::Error::other("it is there, and is no file"));
+            return Err(io::Error::other("exists but is not a regular file"));
         }
         if !force {
-            let words = "it is there already, and is replaced only with --force";
+            let words = "already exists; use --force to replace it";
             return Err(io::Error::other(words));
         }
         Ok(Target::File {
@@ -94,6 +121,7 @@ impl Target {
     pub fn put(
         &self,
         record: &[u8],
+        traits: &Traits,
         check: impl Fn(&[u8]) -> Result<(), String>,
     ) -> io::Result<()> {
         match self {
@@ -104,8 +132,9 @@ impl Target {
                 output.flush()
             }
             Target::File { path, replaced } => {
-                let mut temporary = Temporary::beside(path)?;
-                temporary.fill(record, replaced)?;
+                let permissions = traits.permissions.as_ref().or(replaced.as_ref());
+                let mut temporary = Temporary::beside(path, permissions)?;
+                temporary.fill(record, permissions, traits.modified)?;
                 let back = fs::read(&temporary.path)?;
                 if back != record {
                     let words = "what is read back is not what was written";
@@ -134,13 +163,18 @@ struct Temporary {
 }
 
 impl Temporary {
-    /// A new file in the same folder, so that it can be renamed.
-    fn beside(path: &Path) -> io::Result<Temporary> {
+    /// A new file in the same folder, so that it can be renamed. If it is to have permissions, nobody else may read it before.
+    fn beside(path: &Path, permissions: Option<&Permissions>) -> io::Result<Temporary> {
         let folder = folder_of(path);
+        let mut options = File::options();
+        options.write(true).create_new(true);
+        if permissions.is_some() {
+            options.mode(PRIVATE);
+        }
         let mut taken = io::Error::other("no name for a temporary file is free");
         for number in 0..NAMES {
             let path = folder.join(format!(".tigmavresh-{}-{number}.tmp", process::id()));
-            match File::options().write(true).create_new(true).open(&path) {
+            match options.open(&path) {
                 Ok(file) => {
                     return Ok(Temporary {
                         path,
@@ -156,10 +190,18 @@ impl Temporary {
     }
 
     /// Writes all of a record, down to the disk.
-    fn fill(&mut self, record: &[u8], permissions: &Option<Permissions>) -> io::Result<()> {
+    fn fill(
+        &mut self,
+        record: &[u8],
+        permissions: Option<&Permissions>,
+        modified: Option<SystemTime>,
+    ) -> io::Result<()> {
         self.file.write_all(record)?;
         if let Some(permissions) = permissions {
             self.file.set_permissions(permissions.clone())?;
+        }
+        if let Some(modified) = modified {
+            self.file.set_modified(modified)?;
         }
         self.file.sync_all()
     }

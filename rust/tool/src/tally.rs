@@ -15,6 +15,12 @@ const COLUMNS: [Column; 3] = [numbers("Number"), numbers("Files"), words("Rule b
 pub struct Tally {
     pub accepted: usize,
     pub not_read: usize,
+    /// Links in folders, which are not followed.
+    pub links: usize,
+    /// FIFOs, sockets and devices in folders, which are not read.
+    pub special_files: usize,
+    /// Whether the user ended it before all files were counted.
+    pub is_interrupted: bool,
     by_refusal: BTreeMap<Refusal, usize>,
 }
 
@@ -43,6 +49,7 @@ impl Tally {
     /// The status of the worst file.
     pub fn status(&self) -> Status {
         match (self.not_read, self.refused()) {
+            _ if self.is_interrupted => Status::Interrupted,
             (0, 0) => Status::Accepted,
             (0, _) => Status::Refused,
             _ => Status::NotDone,
@@ -67,10 +74,28 @@ impl fmt::Display for Tally {
     fn fmt(&self, f: &mut fmt::Formatter<'_>) -> fmt::Result {
         let (files, refused) = (self.files(), self.refused());
         let (accepted, not_read) = (self.accepted, self.not_read);
-        let name = if files == 1 { "file" } else { "files" };
+        let files = counted(files, "file");
+        if self.is_interrupted {
+            write!(f, "interrupted, so far ")?;
+        }
         write!(
             f,
-            "{files} {name}: {accepted} accepted, {refused} refused, {not_read} not read"
-        )
+            "{files}: {accepted} accepted, {refused} refused, {not_read} not read"
+        )?;
+        let passed_over = [(self.links, "link"), (self.special_files, "special file")];
+        let passed_over = passed_over.into_iter().filter(|(number, _)| *number > 0);
+        let passed_over: Vec<_> = passed_over
+            .map(|(number, name)| counted(number, name))
+            .collect();
+        match passed_over.is_empty() {
+            true => Ok(()),
+            false => write!(f, "; passed over: {}", passed_over.join(", ")),
+        }
     }
+}
+
+/// A number of things.
+fn counted(number: usize, name: &str) -> String {
+    let plural = if number == 1 { "" } else { "s" };
+    format!("{number} {name}{plural}")
 }

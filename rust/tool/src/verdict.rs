@@ -3,9 +3,11 @@
 use std::fmt;
 
 use scp::{Pointer, Refusal, SAMPLES_MAX};
+use serde::Serialize;
 
 use crate::commands::leads::how_many;
 use crate::input::Size;
+use crate::json;
 
 /// The largest number that refuses all leads alike.
 const OF_ALL: u8 = 10;
@@ -16,6 +18,18 @@ const ROOM: u8 = 11;
 
 /// So many samples most beats have at most.
 const MOST_BEATS: usize = 2048;
+
+/// A verdict in a word.
+#[derive(Clone, Copy, Debug, PartialEq, Eq, Serialize)]
+#[serde(rename_all = "lowercase")]
+pub enum Word {
+    Accepted,
+    Refused,
+    /// The record does not have what is asked for, and need not have it.
+    Absent,
+    /// The file could not be read.
+    Unread,
+}
 
 /// What was judged.
 #[derive(Clone, Copy, Debug, PartialEq, Eq)]
@@ -81,6 +95,22 @@ impl Verdict {
         }
     }
 
+    /// The place of the lead that is refused, if it is one lead.
+    pub fn lead(&self) -> Option<usize> {
+        match self {
+            Verdict::Accepted { .. } => None,
+            Verdict::Refused { lead, .. } => *lead,
+        }
+    }
+
+    /// How many leads a record has that was accepted, as JSON.
+    pub fn lead_count(&self) -> Option<json::Counted> {
+        match self {
+            Verdict::Accepted { leads } => Some(json::Counted { lead_count: *leads }),
+            Verdict::Refused { .. } => None,
+        }
+    }
+
     /// The verdict on a record of this size, in a few words.
     pub fn told(&self, size: Size) -> String {
         match self {
@@ -99,6 +129,22 @@ impl fmt::Display for Verdict {
                 lead.map_or(Ok(()), |place| write!(f, ", lead {place}"))
             }
         }
+    }
+}
+
+/// That a record has not the lead at a place, in words, if that is what it is refused for. A record with one of Sections 3 and
+/// 6 alone is not sound: there is no verdict on it but that it is refused.
+pub fn absent(record: &[u8], place: usize, refusal: Refusal) -> Option<String> {
+    if refusal.number() != ABSENT {
+        return None;
+    }
+    match scp::lead(record, 1) {
+        Ok(_) if place == 0 => Some("the record has no lead 0: --lead starts at 1".to_string()),
+        Ok(entry) => {
+            let leads = how_many(entry.leads);
+            Some(format!("the record has no lead {place}: it has {leads}"))
+        }
+        Err(_) => has_none(record).then(|| "the record has no leads".to_string()),
     }
 }
 

@@ -3,12 +3,18 @@
 mod common;
 
 use std::fs;
+use std::io::{BufRead, BufReader, Read};
 use std::os::unix::fs::symlink;
-use std::process::Command;
+use std::process::{Child, Command, Stdio};
+use std::sync::mpsc::{self, Receiver};
+use std::thread;
+use std::time::Duration;
 
 use common::folder::Folder;
 use common::record::{put, seal};
-use common::{run, run_by_shell, run_in, run_on_terminal, run_with_input, sample, samples, Ran};
+use common::{
+    run, run_by_shell, run_in, run_on_terminal, run_with_input, sample, samples, tool, Ran, NOTE,
+};
 use serde_json::{json, Value};
 
 /// The samples that are accepted, and how many leads are read.
@@ -47,7 +53,7 @@ fn each_sample_is_checked() {
         assert_eq!((ran.status, ran.err.as_str()), (0, ""), "{name}");
         let shown = &ran.lines()[0];
         let bytes = sample(name).len();
-        let expected = json!({"file": name, "bytes": bytes, "refusal": null, "lead_count": leads});
+        let expected = json!({"file": name, "bytes": bytes, "verdict": "accepted", "refusal": null, "lead_count": leads});
         assert_eq!(*shown, expected);
     }
     for number in REFUSED {
@@ -55,12 +61,12 @@ fn each_sample_is_checked() {
         let ran = run(&["check", &name, "--json"]);
         assert_eq!((ran.status, ran.err.as_str()), (1, ""), "{name}");
         let shown = &ran.lines()[0];
-        assert_eq!(shown["refusal"]["number"], number);
+        assert_eq!(shown["refusal"], number);
         assert!(shown.get("lead_count").is_none());
         // 12 to 14 are of one lead, here the second
         let lead = if number > 10 { json!(2) } else { json!(null) };
         assert_eq!(shown["lead"], lead, "{name}");
-        assert_eq!(shown["refusal"]["found"].as_array().unwrap().len(), 1);
+        assert_eq!(shown["found"].as_array().unwrap().len(), 1);
     }
 }
 
@@ -81,7 +87,7 @@ found: Section 6, lead 2: no value for sample 13: the stream ends inside the cod
 refused-1.scp: refused, number 1 (352 bytes); rule broken: a record has 142 to 1,048,576 bytes, as many as its size field says; \
 found: the length is 352 bytes, and the size field says 372
 
-The refusal is the proved library's; what was found is the tool's own look at the bytes, to explain it.
+The proved library decided; the explanation is not proved.
 
 4 files: 2 accepted, 2 refused, 0 not read
   Number  Files  Rule broken
@@ -109,7 +115,7 @@ fn tables_are_judged_where_there_is_no_lead() {
         let ran = run(&["check", &file, "--json"]);
         assert_eq!(ran.status, status, "{}", ran.out);
         let number = if status == 0 { json!(null) } else { json!(7) };
-        assert_eq!(ran.lines()[0]["refusal"]["number"], number);
+        assert_eq!(ran.lines()[0]["refusal"], number);
         assert_eq!(run(&["report", &file]).status, status);
     }
 }
@@ -142,12 +148,10 @@ fn the_answer_does_not_depend_on_the_jobs() {
     let names: Vec<String> = (0..600).map(|n| format!("./{n:04}.scp")).collect();
     assert_eq!(ran.names(), names);
     let summary = ran.lines().pop().unwrap();
-    let counts = json!({"files": 600, "accepted": 360, "refused": 240, "not_read": 0, "by_number": {"2": 120, "13": 120}});
+    let counts = json!({"files": 600, "accepted": 360, "refused": 240, "unread": 0, "interrupted": false,
+        "passed_over": {"links": 0, "special_files": 0}, "by_number": {"2": 120, "13": 120}});
     assert_eq!(summary["summary"], counts);
-    assert!(summary["note"]
-        .as_str()
-        .unwrap()
-        .contains("the tool's own look"));
+    assert_eq!(summary["note"], NOTE);
 }
 
 /// A folder with folders, links and a pipe in it.
@@ -183,10 +187,47 @@ fn a_folder_is_its_regular_files_in_order() {
     // paths come in the order in which they are given, as often as they are
     let ran = run_in(&folder, &["check", "--json", "z.txt", "b/c", "a", "z.txt"]);
     assert_eq!(ran.names(), ["z.txt", "b/c/.hidden", "a", "z.txt"]);
-    fs::create_dir(folder.path("empty")).unwrap();
-    let ran = run_in(&folder, &["check", "empty"]);
-    let text = "0 files: 0 accepted, 0 refused, 0 not read\n";
-    assert_eq!((ran.status, ran.out.as_str()), (0, text));
+}
+
+/// A folder with no file in it may be one that is not mounted: that is not taken for a good answer.
+#[test]
+fn no_file_is_no_good_answer() {
+    let folder = Folder::new("nothing");
+    fs::create_dir_all(folder.path("empty/inner")).unwrap();
+    fs::create_dir(folder.path("links")).unwrap();
+    symlink("nowhere", folder.path("links/link")).unwrap();
+    let none = "0 files: 0 accepted, 0 refused, 0 not read";
+    for (name, text) in [
+        ("empty", format!("{none}\n")),
+        ("links", format!("{none}; passed over: 1 link\n")),
+    ] {
+        let ran = run_in(&folder, &["check", name]);
+        assert_eq!((ran.status, &ran.out), (2, &text));
+        let words = "no files found; use --allow-empty if that is expected";
+        assert_eq!(ran.err, format!("tigmavresh: {words}\n"));
+        let ran = run_in(&folder, &["check", "--allow-empty", name]);
+        assert_eq!((ran.status, &ran.out, ran.err.as_str()), (0, &text, ""));
+        let ran = run_in(&folder, &["check", "--json", name]);
+        assert_eq!(ran.status, 2);
+    }
+    // a file that cannot be read is not let pass
+    let ran = run_in(&folder, &["check", "--allow-empty", "empty", "none"]);
+    assert_eq!(ran.status, 2);
+}
+
+/// Links, FIFOs and the like that a folder has are passed over and counted.
+#[test]
+fn what_is_passed_over_is_counted() {
+    let folder = tree();
+    let ran = run_in(&folder, &["check", "."]);
+    let text = "6 files: 6 accepted, 0 refused, 0 not read; passed over: 4 links, 1 special file";
+    assert_eq!(ran.out.lines().last(), Some(text));
+    let ran = run_in(&folder, &["check", ".", "--json"]);
+    let summary = ran.lines().pop().unwrap();
+    let passed_over = json!({"links": 4, "special_files": 1});
+    assert_eq!(summary["summary"]["passed_over"], passed_over);
+    let ran = run_in(&folder, &["check", "link", "a"]);
+    assert!(!ran.out.contains("passed over"), "{}", ran.out);
 }
 
 #[test]
@@ -218,12 +259,13 @@ fn what_cannot_be_read_does_not_stop_the_others() {
         format!("tigmavresh: none.scp: {reason}\ntigmavresh: none: {reason}\n")
     );
     let lines = ran.lines();
-    assert_eq!(lines[0], json!({"file": "none.scp", "error": reason}));
+    let unread = json!({"file": "none.scp", "verdict": "unread", "refusal": null, "error": reason});
+    assert_eq!(lines[0], unread);
     assert_eq!(
         ran.names(),
         ["none.scp", "007.scp", "none", "refused-2.scp"]
     );
-    assert_eq!(lines[4]["summary"]["not_read"], 2);
+    assert_eq!(lines[4]["summary"]["unread"], 2);
     let ran = run(&words[..5]);
     assert_eq!(ran.status, 2);
     assert!(ran.out.starts_with("007.scp: accepted"), "{}", ran.out);
@@ -243,7 +285,7 @@ fn standard_input_is_one_of_the_files() {
     assert_eq!(ran.err, "tigmavresh: standard input: it was read already\n");
     let lines = ran.lines();
     assert_eq!(ran.names(), ["7.scp", "-", "007.scp", "-"]);
-    assert_eq!(lines[1]["refusal"]["number"], 14);
+    assert_eq!(lines[1]["refusal"], 14);
     assert_eq!(lines[3]["error"], "it was read already");
 }
 
@@ -274,6 +316,15 @@ fn jobs_are_a_number_over_0() {
         let ran = run(&["check", "007.scp", &format!("--jobs={jobs}")]);
         assert_eq!((ran.status, ran.out.as_str()), (2, ""), "{jobs}");
         assert!(ran.err.contains("--jobs"), "{}", ran.err);
+        let words = [
+            "give a whole number from 1 to 1024\n",
+            "a value is required",
+        ];
+        assert!(
+            words.iter().any(|words| ran.err.contains(words)),
+            "{}",
+            ran.err
+        );
     }
     assert_eq!(run(&["check", "007.scp", "--jobs", "64"]).status, 0);
 }
@@ -330,4 +381,106 @@ fn a_closed_pipe_is_quiet() {
         assert_eq!(ran.out, "7.scp: accepted (194 bytes; no lead)\n");
         assert_eq!(ran.err, status);
     }
+}
+
+/// So long a line is waited for that is to come at once.
+const PATIENCE: Duration = Duration::from_secs(60);
+
+/// The tool at work on files of which one, a pipe that nobody writes to, is never read to its end.
+struct Waiting {
+    tool: Child,
+    lines: Receiver<String>,
+}
+
+impl Waiting {
+    fn start(folder: &Folder, words: &[&str]) -> Waiting {
+        let pipe = Command::new("mkfifo").arg(folder.path("pipe")).status();
+        assert!(pipe.unwrap().success());
+        let mut command = tool();
+        command.current_dir(&folder.0).arg("check").args(words);
+        let mut tool = command
+            .stdout(Stdio::piped())
+            .stderr(Stdio::piped())
+            .spawn()
+            .unwrap();
+        let output = BufReader::new(tool.stdout.take().unwrap());
+        let (to, lines) = mpsc::channel();
+        thread::spawn(move || output.lines().try_for_each(|line| to.send(line.unwrap())));
+        Waiting { tool, lines }
+    }
+
+    /// The next line.
+    fn line(&self) -> String {
+        self.lines.recv_timeout(PATIENCE).expect("a line at once")
+    }
+
+    fn send(&self, signal: &str) {
+        let sent = Command::new("kill")
+            .args([signal, &self.tool.id().to_string()])
+            .status();
+        assert!(sent.unwrap().success());
+    }
+
+    /// The lines that are left, the exit status and what was complained of.
+    fn end(mut self) -> (Vec<String>, Option<i32>, String) {
+        let lines = std::iter::from_fn(|| self.lines.recv_timeout(PATIENCE).ok()).collect();
+        let mut complaints = String::new();
+        self.tool
+            .stderr
+            .take()
+            .unwrap()
+            .read_to_string(&mut complaints)
+            .unwrap();
+        (lines, self.tool.wait().unwrap().code(), complaints)
+    }
+}
+
+impl Drop for Waiting {
+    /// Nothing goes on after a test that failed.
+    fn drop(&mut self) {
+        let _ = self.tool.kill();
+    }
+}
+
+/// A line does not wait for the files after it, and an interruption ends with the summary of the files so far.
+#[test]
+fn an_interruption_shows_the_summary() {
+    for (jobs, form) in [("1", &[][..]), ("3", &[]), ("2", &["--json"])] {
+        let folder = Folder::new(&format!("interrupted-{jobs}"));
+        for name in ["a.scp", "b.scp", "z.scp"] {
+            folder.file(name, &sample("7.scp"));
+        }
+        folder.file("b.scp", &sample("refused-2.scp"));
+        let words = [&["a.scp", "b.scp", "pipe", "z.scp", "--jobs", jobs], form].concat();
+        let waiting = Waiting::start(&folder, &words);
+        assert!(waiting.line().contains("a.scp"));
+        assert!(waiting.line().contains("b.scp"));
+        waiting.send("-INT");
+        let (lines, status, complaints) = waiting.end();
+        assert_eq!((status, complaints.as_str()), (Some(130), ""));
+        let last = lines.join("\n");
+        assert!(!last.contains("z.scp"), "{last}");
+        match form.is_empty() {
+            true => {
+                let text = "interrupted, so far 2 files: 1 accepted, 1 refused, 0 not read";
+                assert!(lines.iter().any(|line| line == text), "{last}");
+            }
+            false => {
+                let summary: Value = serde_json::from_str(&last).unwrap();
+                assert_eq!(summary["summary"]["files"], 2);
+                assert_eq!(summary["summary"]["interrupted"], true);
+            }
+        }
+    }
+}
+
+/// Whatever ends the tool, the lines of the files that were judged are there.
+#[test]
+fn a_line_is_not_lost_by_a_signal() {
+    let folder = Folder::new("killed");
+    folder.file("a.scp", &sample("7.scp"));
+    let waiting = Waiting::start(&folder, &["a.scp", "pipe"]);
+    assert_eq!(waiting.line(), "a.scp: accepted (194 bytes; no lead)");
+    waiting.send("-KILL");
+    assert_eq!(waiting.end().0, [""; 0]);
 }

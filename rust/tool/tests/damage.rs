@@ -4,7 +4,7 @@ mod common;
 
 use std::ffi::OsStr;
 use std::fs::{self, File, Permissions};
-use std::io::{Seek, Write};
+use std::io::{BufRead, BufReader, Seek};
 use std::os::unix::ffi::OsStrExt;
 use std::os::unix::fs::PermissionsExt;
 use std::process::{Command, Stdio};
@@ -15,47 +15,43 @@ use common::folder::Folder;
 use common::{run, run_by_shell, run_in, run_with_input, sample, samples, tool, Ran};
 use serde_json::Value;
 
-/// Files that are gone, or have become folders, between listing and reading. The first file is a pipe, which the tool waits
-/// for: by then it has listed the others.
+/// Files that are gone, or have become folders, between listing and reading. The tool has listed the folder when it shows the
+/// first line, and waits for its lines to be read.
 #[test]
 fn files_may_vanish() {
+    const FILES: usize = 2000;
     let folder = Folder::new("vanish");
-    fs::create_dir(folder.path("many")).unwrap();
-    for name in ["many/1", "many/2", "many/3", "many/4"] {
-        folder.file(name, &sample("7.scp"));
+    // so long that the lines fill the pipe, and the tool waits, long before the last files
+    let name = |number: usize| format!("{number:0100}");
+    for number in 1..=FILES {
+        folder.file(&name(number), &sample("7.scp"));
     }
-    let made = Command::new("mkfifo").arg(folder.path("pipe")).status();
-    assert!(made.unwrap().success());
-    let child = tool()
+    let mut child = tool()
         .current_dir(&folder.0)
-        .args(["check", "pipe", "many", "--jobs", "1"])
+        .args(["check", ".", "--jobs", "1"])
         .stdout(Stdio::piped())
         .stderr(Stdio::piped())
         .spawn()
         .unwrap();
-    let mut pipe = File::options()
-        .write(true)
-        .open(folder.path("pipe"))
-        .unwrap();
-    fs::remove_file(folder.path("many/2")).unwrap();
-    fs::remove_file(folder.path("many/3")).unwrap();
-    fs::create_dir(folder.path("many/3")).unwrap();
-    pipe.write_all(&sample("beat.scp")).unwrap();
-    drop(pipe);
+    let mut lines = BufReader::new(child.stdout.take().unwrap()).lines();
+    let first = lines.next().unwrap().unwrap();
+    assert_eq!(
+        first,
+        format!("./{}: accepted (194 bytes; no lead)", name(1))
+    );
+    let [gone, folded] = [FILES - 2, FILES - 1].map(name);
+    fs::remove_file(folder.path(&gone)).unwrap();
+    fs::remove_file(folder.path(&folded)).unwrap();
+    fs::create_dir(folder.path(&folded)).unwrap();
+    let lines: Vec<String> = lines.map(Result::unwrap).collect();
     let ran = Ran::from(child.wait_with_output().unwrap());
     assert_eq!(ran.status, 2);
-    let told = "\
-pipe: accepted (418 bytes; 2 leads)
-many/1: accepted (194 bytes; no lead)
-many/4: accepted (194 bytes; no lead)
-
-5 files: 3 accepted, 0 refused, 2 not read
-";
-    assert_eq!(ran.out, told);
-    let reasons = "\
-tigmavresh: many/2: No such file or directory
-tigmavresh: many/3: Is a directory
-";
+    assert!(lines.contains(&format!("./{}: accepted (194 bytes; no lead)", name(FILES))));
+    let summary = "2000 files: 1998 accepted, 0 refused, 2 not read";
+    assert_eq!(lines.last().unwrap(), summary);
+    let reasons = format!(
+        "tigmavresh: ./{gone}: No such file or directory\ntigmavresh: ./{folded}: Is a directory\n"
+    );
     assert_eq!(ran.err, reasons);
 }
 
@@ -127,7 +123,7 @@ fn a_huge_file_is_not_read_whole() {
         "huge.scp: refused, number 1 (4,294,967,296 bytes); rule broken: ",
         "found: the length is 4,294,967,296 bytes, over 1,048,576\n",
         "empty.scp: refused, number 1 (0 bytes); rule broken: ",
-        "found: the length is 0 bytes, under 142\n",
+        "; the length is 0 bytes, under 142\n",
     ] {
         assert!(ran.out.contains(line), "{line}\n{}", ran.out);
     }

@@ -5,7 +5,8 @@ mod common;
 use std::fs::File;
 
 use common::folder::Folder;
-use common::{run, run_with_input, sample, samples, Ran};
+use common::{run, run_with_input, sample, samples, Ran, NOTE};
+use scp::Refusal;
 use serde_json::{json, Value};
 
 impl Ran {
@@ -55,7 +56,8 @@ fn pointers_are_told_as_they_are_stored() {
     ] {
         assert!(pointers.contains(&told), "{told}");
     }
-    let counts = json!({"files": 1, "accepted": 1, "refused": 0, "not_read": 0, "by_number": {}});
+    let counts = json!({"files": 1, "accepted": 1, "refused": 0, "unread": 0, "interrupted": false,
+        "passed_over": {"links": 0, "special_files": 0}, "by_number": {}});
     assert_eq!(lines[1..], [json!({"summary": counts})]);
 }
 
@@ -75,22 +77,25 @@ fn every_file_has_a_line() {
     let lines = ran.lines();
     assert_eq!(
         lines[0],
-        json!({"file": "refused-2.scp", "bytes": 372, "refusal": {
-            "number": 2,
-            "rule": "a record's first two bytes are the check of all that follow",
+        json!({
+            "file": "refused-2.scp",
+            "bytes": 372,
+            "verdict": "refused",
+            "refusal": 2,
+            "rule": Refusal::try_from(2).unwrap().words(),
             "found": ["the check stored is 0x5937, that of the bytes 0x5A44"],
-        }})
+        })
     );
     assert_eq!(
         lines[1],
-        json!({"file": "none.scp", "error": "No such file or directory"})
+        json!({"file": "none.scp", "verdict": "unread", "refusal": null, "error": "No such file or directory"})
     );
     assert_eq!(lines[2]["pointers"].as_array().unwrap().len(), 12);
     assert!(lines[3]["refusal"].is_null());
-    let counts =
-        json!({"files": 4, "accepted": 2, "refused": 1, "not_read": 1, "by_number": {"2": 1}});
+    let counts = json!({"files": 4, "accepted": 2, "refused": 1, "unread": 1, "interrupted": false,
+        "passed_over": {"links": 0, "special_files": 0}, "by_number": {"2": 1}});
     assert_eq!(lines[4]["summary"], counts);
-    assert!(lines[4]["note"].as_str().unwrap().contains("own look"));
+    assert_eq!(lines[4]["note"], NOTE);
     assert_eq!(lines.len(), 5);
 }
 
@@ -140,7 +145,7 @@ fn fields_are_told_byte_for_byte() {
     let fields = &shown["fields"];
     assert_eq!(
         fields[0],
-        json!({"tag": 2, "name": "patient identifier", "length": 4, "bytes": "30 30 37 00", "text": "007\0"})
+        json!({"tag": 2, "name": "patient identifier", "length": 4, "bytes": "30 30 37 00", "text": "007"})
     );
     assert_eq!(
         fields[1],
@@ -154,10 +159,10 @@ fn fields_are_told_byte_for_byte() {
         fields[3],
         json!({"tag": 26, "name": "time of recording", "length": 3, "bytes": "09 1A 35", "time": "09:26:53"})
     );
-    assert_eq!(fields[4]["text"], "Made up\0");
+    assert_eq!(fields[4]["text"], "Made up");
     let seven = run(&["fields", "7.scp", "--json"]).json();
     assert_eq!(seven["fields"][0]["bytes"], "37 00");
-    assert_eq!(seven["fields"][0]["text"], "7\0");
+    assert_eq!(seven["fields"][0]["text"], "7");
 }
 
 #[test]
@@ -170,16 +175,10 @@ fn fields_of_a_refused_record_are_not_told() {
         (&shown["file"], &shown["bytes"]),
         (&json!("-"), &json!(194))
     );
-    assert_eq!(shown["refusal"]["number"], 6);
-    assert_eq!(
-        shown["refusal"]["found"],
-        json!(["tag 2 has no NUL at its end"])
-    );
+    assert_eq!(shown["refusal"], 6);
+    assert_eq!(shown["found"], json!(["tag 2 has no NUL at its end"]));
     assert!(shown.get("fields").is_none());
-    assert!(shown["note"].as_str().unwrap().contains("own look"));
-    let ran = run(&["fields", "none.scp", "--json"]);
-    assert_eq!((ran.status, ran.out.as_str()), (2, ""));
-    assert_eq!(ran.err, "tigmavresh: none.scp: No such file or directory\n");
+    assert_eq!(shown["note"], NOTE);
 }
 
 /// A record with these fields, and one lead.
@@ -221,6 +220,7 @@ fn no_byte_of_a_field_is_lost() {
             (30, &long),
             (30, b"caf\xC3\xA9\0"),
             (200, b"\"\\\0\0"),
+            (30, b"M\xFCller\n\0"),
         ]),
     );
     let fields = run(&["fields", &file, "--json"]).json()["fields"].clone();
@@ -230,14 +230,23 @@ fn no_byte_of_a_field_is_lost() {
             fields[place]["text"].as_str(),
         )
     };
-    assert_eq!(told(0), (Some("20 30 61 41 20 00"), Some(" 0aA \0")));
+    assert_eq!(told(0), (Some("20 30 61 41 20 00"), Some(" 0aA ")));
     let hex: Vec<String> = long.iter().map(|byte| format!("{byte:02X}")).collect();
     let text = String::from_utf8(long).unwrap();
     assert_eq!(told(4), (Some(hex.join(" ").as_str()), Some(text.as_str())));
-    assert_eq!(told(5), (Some("63 61 66 C3 A9 00"), None));
-    assert_eq!(told(6), (Some("22 5C 00 00"), Some("\"\\\0\0")));
+    assert_eq!(told(5), (Some("63 61 66 C3 A9 00"), Some("caf\u{e9}")));
+    assert_eq!(told(6), (Some("22 5C 00 00"), Some("\"\\\0")));
     assert_eq!(fields[6]["name"], "other");
-    assert_eq!(fields.as_array().unwrap().len(), 7);
+    assert_eq!(told(7), (Some("4D FC 6C 6C 65 72 0A 00"), None));
+    assert_eq!(fields[7]["escaped"], "M\\xFCller\\n");
+    assert_eq!(fields.as_array().unwrap().len(), 8);
+    let table = run(&["fields", &file]).out;
+    for line in [
+        "   30       6  remark              63 61 66 C3 A9 00                                \"caf\u{e9}\\0\"",
+        "   30       8  remark              4D FC 6C 6C 65 72 0A 00                          \"M\\xFCller\\n\\0\"",
+    ] {
+        assert!(table.lines().any(|shown| shown == line), "{line}\n{table}");
+    }
 }
 
 /// A record with this date of birth, date and time.
@@ -272,13 +281,23 @@ fn dates_and_times_are_read() {
     let file = folder.file("out-of-bounds.scp", &record);
     let ran = run(&["fields", &file]);
     assert_eq!(ran.status, 0);
-    for end in ["A8 07 0B 02 00", "E8 07 0D 1F", "18 00 00"] {
-        assert!(ran.out.lines().any(|line| line.ends_with(end)), "{end}");
+    for end in [
+        "A8 07 0B 02 00  (not a date in the calendar)",
+        "E8 07 0D 1F     (not a date in the calendar)",
+        "18 00 00        (not a time of day)",
+    ] {
+        assert!(
+            ran.out.lines().any(|line| line.ends_with(end)),
+            "{end}\n{}",
+            ran.out
+        );
     }
     let fields = run(&["fields", &file, "--json"]).json()["fields"].clone();
     for field in fields.as_array().unwrap() {
         assert!(field.get("date").is_none() && field.get("time").is_none());
     }
+    assert_eq!(fields[1]["remark"], "not a date in the calendar");
+    assert_eq!(fields[4]["remark"], "not a time of day");
 }
 
 #[test]

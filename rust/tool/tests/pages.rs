@@ -2,14 +2,20 @@
 
 mod common;
 
+/// What tells cargo when to build anew.
+#[allow(dead_code)]
+#[path = "../build.rs"]
+mod build;
+
 use std::fs;
 use std::io::Write;
 use std::os::unix::fs::symlink;
-use std::path::Path;
+use std::path::{Path, PathBuf};
 use std::process::{Command, Stdio};
 
 use common::folder::Folder;
 use common::{run, run_in, samples, Ran};
+use walkdir::{DirEntry, WalkDir};
 
 /// The commands, as the help lists them.
 fn commands() -> Vec<String> {
@@ -50,7 +56,14 @@ fn every_refusal_is_explained() {
             .strip_prefix(&format!("Refusal {number}: "));
         names.push(name.unwrap().to_string());
         assert!(ran.out.contains("\n\nFor example, "), "{}", ran.out);
-        assert!(ran.out.contains("\n\nGiven by "), "{}", ran.out);
+        let given = [
+            "\n\nGiven by ",
+            "\n\nOnly programs that call the library see this.\n",
+        ];
+        assert_eq!(
+            given.map(|words| ran.out.contains(words)),
+            [number != 11, number == 11]
+        );
     }
     let all = names.len();
     names.sort();
@@ -59,6 +72,12 @@ fn every_refusal_is_explained() {
     for number in ["0", "18", "256", "-1", "one", ""] {
         let ran = run(&[&format!("--explain={number}")]);
         assert_eq!((ran.status, ran.out.as_str()), (2, ""), "{number}");
+        let words = ["refusals are numbered 1 to 17\n", "a value is required"];
+        assert!(
+            words.iter().any(|words| ran.err.contains(words)),
+            "{}",
+            ran.err
+        );
     }
     assert_eq!(run(&["--explain", "1", "open", "007.scp"]).status, 2);
 }
@@ -107,7 +126,7 @@ fn the_manual_has_every_command() {
         ran.first_line()
     );
     let commands = commands();
-    assert_eq!(commands.len(), 10);
+    assert_eq!(commands.len(), 11);
     for command in &commands {
         assert!(
             ran.out.contains(&format!("\n.SS \"{command}\"\n")),
@@ -121,7 +140,7 @@ fn the_manual_has_every_command() {
             .split_whitespace()
             .filter_map(|word| word.strip_prefix("--"));
         for option in words {
-            let option = option.trim_end_matches([',', '.']);
+            let option = option.trim_end_matches([',', '.']).replace('-', "\\-");
             assert!(
                 ran.out.contains(&format!("\\-\\-{option}")),
                 "{command}: {option}"
@@ -148,7 +167,7 @@ fn the_help_of_a_command_is_its_own() {
         assert_eq!(help.ends_with(others), many, "{help}");
         let reads = many || ["fields", "leads", "samples", "report"].contains(&words);
         assert_eq!(help.contains(input), reads, "{help}");
-        let refuses = !["man", "completions"].contains(&words);
+        let refuses = !["help", "man", "completions"].contains(&words);
         assert_eq!(help.contains("\n  1  "), refuses, "{help}");
         assert_eq!(help.matches("\nExit status:\n  0  ").count(), 1, "{help}");
     }
@@ -172,6 +191,7 @@ fn the_readme_is_true() {
         examples += 1;
     }
     assert!(examples >= 5, "{examples}");
+    assert_eq!(readme.matches("```text\n").count(), examples);
     for command in commands() {
         let line = format!("\n./tigmavresh {command} ");
         assert!(readme.contains(&line), "{command}");
@@ -243,6 +263,57 @@ fn bash_completes_commands_and_options() {
             );
         }
     }
+}
+
+/// Calls git in a folder.
+fn git(folder: &Folder, words: &[&str]) {
+    let name = [
+        "-c",
+        "user.name=Nobody",
+        "-c",
+        "user.email=nobody@localhost",
+    ];
+    let mut git = Command::new("git");
+    git.args(name).args(words).current_dir(&folder.0);
+    assert!(git.status().unwrap().success(), "{words:?}");
+}
+
+/// Each file that a build watches for the commit, also in a folder, and its bytes.
+fn watched(folder: &Folder) -> Vec<(PathBuf, Vec<u8>)> {
+    let files = build::commit_files(&folder.0.join(".git")).into_iter();
+    let files = files.flat_map(|path| WalkDir::new(path).sort_by_file_name());
+    let files = files.flatten().filter(|entry| entry.file_type().is_file());
+    let with_bytes = |file: DirEntry| (file.path().to_path_buf(), fs::read(file.path()).unwrap());
+    files.map(with_bytes).collect()
+}
+
+/// A commit changes what a build watches, and another branch does not, wherever git keeps the branch.
+#[test]
+fn a_build_follows_the_commit() {
+    let folder = Folder::new("commits");
+    let commit = || {
+        git(
+            &folder,
+            &["commit", "-q", "--allow-empty", "-m", "A commit"],
+        )
+    };
+    git(&folder, &["init", "-q"]);
+    commit();
+    let first = watched(&folder);
+    git(&folder, &["branch", "other"]);
+    assert_eq!(watched(&folder), first);
+    commit();
+    let second = watched(&folder);
+    assert_ne!(second, first);
+    git(&folder, &["pack-refs", "--all"]);
+    let packed = watched(&folder);
+    assert_ne!(packed, second);
+    commit();
+    assert_ne!(watched(&folder), packed);
+    git(&folder, &["checkout", "-q", "--detach"]);
+    let detached = watched(&folder);
+    commit();
+    assert_ne!(watched(&folder), detached);
 }
 
 /// The version names the commit and the kit, as they are asked for here.

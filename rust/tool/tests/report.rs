@@ -6,7 +6,7 @@ use std::fs::File;
 
 use common::folder::Folder;
 use common::record::{seal, section};
-use common::{run, sample, samples, Ran};
+use common::{run, sample, samples, Ran, NOTE};
 use serde_json::{json, Value};
 
 impl Ran {
@@ -43,10 +43,10 @@ fn a_report_agrees_with_check() {
         for key in ["file", "bytes", "lead", "lead_count"] {
             assert_eq!(shown[key], checked[key], "{name}");
         }
-        assert_eq!(shown["refusal"]["number"], checked["refusal"]["number"]);
+        assert_eq!(shown["refusal"], checked["refusal"]);
         assert_eq!(shown["rules"].as_array().unwrap().len(), 9);
         assert_eq!(shown.get("note").is_some(), report.status == 1);
-        let first = match shown["refusal"]["number"].as_u64() {
+        let first = match shown["refusal"].as_u64() {
             Some(number @ 1..=9) => Some((number, true)),
             _ => None,
         };
@@ -103,13 +103,13 @@ fn every_rule_that_is_broken_is_shown() {
     );
     for lines in [
         "     5  section checks           kept\n     6  Section 1                broken\n",
-        "     8  Sections 3 to 6          kept, as it seems\n     9  bimodal, step, interval  broken, as it seems\n",
+        "     8  Sections 3 to 6          probably kept\n     9  bimodal, step, interval  probably broken\n",
         "\nRule 6, Section 1: broken\n  rule broken  Section 1 is whole fields",
         "\n  found        tag 2 has no NUL at its end\n",
-        "\nRule 9, bimodal, step, interval: broken, as it seems\n  found        the interval is 1000 in Section 5 and 2000",
+        "\nRule 9, bimodal, step, interval: probably broken\n  found        the interval is 1000 in Section 5 and 2000",
         "\nNo lead is read: the record is refused, number 6\n",
         "\nRules 7 to 9 were asked alone, of bytes that break rule 6: the answer is a hint, and not certain.\n",
-        "\nThe answers are the proved library's; what was found is the tool's own look at the bytes, to explain them.\n",
+        "\nThe proved library decided; the explanation is not proved.\n",
     ] {
         assert!(ran.out.contains(lines), "{lines}\n{}", ran.out);
     }
@@ -137,12 +137,16 @@ fn every_lead_is_read() {
         assert_eq!(broken(&shown), []);
         let leads = shown["leads"].as_array().unwrap();
         assert_eq!((leads.len(), &leads[0]["refusal"]), (2, &json!(null)));
-        assert_eq!(leads[1]["refusal"]["number"], number);
+        assert_eq!(leads[1]["refusal"], number);
         assert!(leads[0].get("samples").is_none());
     }
     let ran = run(&["report", "refused-10.scp"]);
-    let text = "\nNo lead is read: the record is refused, number 10\n  rule broken  what is asked for is in the record\n  found        Section 6 is absent\n";
-    assert!(ran.out.contains(text), "{}", ran.out);
+    for text in [
+        "\nNo lead is read: the record is refused, number 10\n  rule broken  ",
+        "\n  found        Section 6 is absent\n",
+    ] {
+        assert!(ran.out.contains(text), "{}", ran.out);
+    }
 }
 
 /// The second lead of two that are refused is shown as well.
@@ -156,12 +160,9 @@ fn all_leads_that_are_refused_are_shown() {
     seal(&mut record);
     let file = folder.file("leads.scp", &record);
     let shown = run(&["report", &file, "--json"]).json();
-    assert_eq!(
-        (&shown["refusal"]["number"], &shown["lead"]),
-        (&json!(12), &json!(1))
-    );
+    assert_eq!((&shown["refusal"], &shown["lead"]), (&json!(12), &json!(1)));
     for lead in shown["leads"].as_array().unwrap() {
-        assert_eq!(lead["refusal"]["number"], 12, "{shown}");
+        assert_eq!(lead["refusal"], 12, "{shown}");
     }
 }
 
@@ -191,27 +192,44 @@ fn the_rules_that_are_not_certain_are_named() {
 #[test]
 fn a_file_that_is_no_record_is_said_to_be_none() {
     let folder = Folder::new("foreign");
-    let words = "it seems to be no SCP-ECG record: bytes 17 to 22 are not the letters SCPECG";
     for text in ["A letter to nobody. ".repeat(20), String::new()] {
         let file = folder.file("letter.txt", text.as_bytes());
         let ran = run(&["report", &file]);
-        let second = ran.out.lines().nth(1);
-        assert_eq!(second, Some(format!("  found        {words}").as_str()));
+        let words = ran.out.lines().nth(1).unwrap();
+        let words = words.strip_prefix("  found        ").unwrap();
+        assert!(words.contains("SCP-ECG record"), "{words}");
         assert!(!ran.out.contains("nothing that"), "{}", ran.out);
         assert!(
             ran.out
-                .contains("\n     6  Section 1                broken, as it seems\n"),
+                .contains("\n     6  Section 1                probably broken\n"),
             "{}",
             ran.out
         );
         assert!(!ran.out.contains("\nRule 6"), "{}", ran.out);
-        assert!(ran.out.contains("what was found is the tool's own look"));
+        assert!(ran.out.contains(NOTE));
         let shown = run(&["report", &file, "--json"]).json();
-        assert_eq!(shown["found"], json!([words]));
+        assert_eq!(shown["found"][0], words);
         assert_eq!(shown["rules"][5]["found"], json!([]));
+        // so do the other commands
+        let line = run(&["check", &file]).out;
+        assert!(
+            line.contains(&format!("; found: {words}; the length is ")),
+            "{line}"
+        );
+        for command in ["check", "open"] {
+            let ran = run(&[command, &file, "--json"]);
+            let told: Value = serde_json::from_str(ran.first_line()).unwrap();
+            assert_eq!(told["found"][0], words, "{command}");
+        }
+        for command in ["open", "fields", "leads", "samples"] {
+            let third = run(&[command, &file]).out;
+            let third = third.lines().nth(2).map(str::to_string);
+            assert_eq!(third, Some(format!("  found        {words}")), "{command}");
+        }
     }
     let shown = run(&["report", "refused-2.scp", "--json"]).json();
-    assert!(shown.get("found").is_none());
+    let found = shown["found"][0].as_str().unwrap();
+    assert!(found.starts_with("the check stored"), "{found}");
 }
 
 /// Of a file that is too long not all is read, and no more is asked than its length.

@@ -5,7 +5,8 @@ mod common;
 use std::collections::BTreeSet;
 use std::fs;
 
-use common::{run, samples};
+use common::folder::Folder;
+use common::{run, samples, NOTE};
 use serde_json::Value;
 
 /// A sample, and the first line of `open` and of `fields` after its name.
@@ -134,11 +135,17 @@ const SAMPLES: [(&str, i32, &str, &str); 20] = [
 
 /// A sample that opens, and the status and the first line of `leads` and of `samples` after its name.
 const LEADS: [(&str, [(i32, &str); 2]); 14] = [
-    ("007.scp", [(1, "refused, number 10 (196 bytes)"); 2]),
-    ("7.scp", [(1, "refused, number 10 (194 bytes)"); 2]),
+    (
+        "007.scp",
+        [(1, "absent, number 10 (196 bytes): the record has no leads"); 2],
+    ),
+    (
+        "7.scp",
+        [(1, "absent, number 10 (194 bytes): the record has no leads"); 2],
+    ),
     (
         "makers-sections.scp",
-        [(1, "refused, number 10 (296 bytes)"); 2],
+        [(1, "absent, number 10 (296 bytes): the record has no leads"); 2],
     ),
     (
         "two-leads.scp",
@@ -291,7 +298,7 @@ fn a_refusal_is_explained() {
     ] {
         let ran = run(&["open", name]);
         assert!(ran.out.contains(found), "{found}\n{}", ran.out);
-        assert!(ran.out.contains("the tool's own look at the bytes"), "{}", ran.out);
+        assert!(ran.out.contains(NOTE), "{}", ran.out);
     }
 }
 
@@ -319,7 +326,6 @@ fn the_leads_of_each_sample_are_shown() {
 #[test]
 fn a_refusal_of_leads_is_explained() {
     for (name, found) in [
-        ("007.scp", "found        Section 3 is absent\n               Section 6 is absent\n"),
         ("refused-7.scp", "table 2, structure 3: its prefix 101 begins with structure 2's, 10"),
         ("refused-8.scp", "QRS 2: the zone starts at 10, and the one before it ends at 10"),
         ("refused-9.scp", "the interval is 1000 in Section 5 and 2000 in Section 6"),
@@ -330,11 +336,11 @@ fn a_refusal_of_leads_is_explained() {
     ] {
         let ran = run(&["samples", name]);
         assert!(ran.out.contains(found), "{found}\n{}", ran.out);
-        assert!(ran.out.contains("the tool's own look at the bytes"), "{}", ran.out);
+        assert!(ran.out.contains(NOTE), "{}", ran.out);
         let ran = run(&["samples", name, "--csv"]);
         assert_eq!(ran.status, 1);
         assert!(ran.err.contains(found.lines().next().unwrap()), "{found}\n{}", ran.err);
-        assert!(ran.err.contains("the tool's own look at the bytes"), "{}", ran.err);
+        assert!(ran.err.contains(NOTE), "{}", ran.err);
     }
 }
 
@@ -438,7 +444,7 @@ fn json_says_what_there_is() {
 fn json_says_what_is_refused() {
     let shown = json(&["samples", "refused-12.scp", "--json"]);
     assert_eq!(shown["leads"][0]["samples"][1], 2);
-    assert_eq!(shown["leads"][1]["refusal"]["number"], 12);
+    assert_eq!(shown["leads"][1]["refusal"], 12);
     assert_eq!(shown["refusal"], shown["leads"][1]["refusal"]);
     assert_eq!(shown["lead"], 2);
     let report = json(&["report", "refused-12.scp", "--json"]);
@@ -449,17 +455,60 @@ fn json_says_what_is_refused() {
     assert!(first["refusal"].is_null() && first.get("lead").is_none());
     assert!(shown["leads"][1].get("samples").is_none());
     let shown = json(&["samples", "beat.scp", "--lead", "3", "--json"]);
-    assert_eq!(shown["refusal"]["number"], 10);
-    let found = &shown["refusal"]["found"];
-    assert_eq!(
-        *found,
-        serde_json::json!(["there is no lead 3: Section 3 has 2"])
-    );
-    assert!(shown["note"]
-        .as_str()
-        .unwrap()
-        .contains("the tool's own look"));
+    assert_eq!(shown["refusal"], 10);
+    assert_eq!(shown["verdict"], "absent");
+    let found = serde_json::json!(["the record has no lead 3: it has 2 leads"]);
+    assert_eq!(shown["found"], found);
     assert!(shown.get("leads").is_none());
+}
+
+/// No command calls a record refused that check accepts.
+#[test]
+fn a_record_has_one_verdict() {
+    let folder = Folder::new("one-verdict");
+    let out = folder.path("out.scp");
+    for (name, ..) in SAMPLES {
+        let accepted = run(&["check", name]).status == 0;
+        for words in [
+            &["fields", name][..],
+            &["leads", name],
+            &["samples", name],
+            &["samples", name, "--lead", "3"],
+            &["samples", name, "--csv", "--lead", "3"],
+            &["report", name],
+            &["pack", name, &out, "--force"],
+        ] {
+            let ran = run(words);
+            let told = format!("{}{}", ran.out, ran.err);
+            let is_refused = told.contains("refused") && !told.contains("left alone");
+            assert!(!(accepted && is_refused), "{words:?}: {told}");
+        }
+    }
+}
+
+/// What is asked for is not there: the words, the number and the status, in each form.
+#[test]
+fn what_is_not_there_is_absent() {
+    let folder = Folder::new("absent");
+    let out = folder.path("out.scp");
+    for (words, told) in [
+        (&["leads", "007.scp"][..], "007.scp: absent, number 10 (196 bytes): the record has no leads\n"),
+        (&["pack", "007.scp", &out], "007.scp: absent, number 10 (196 bytes): the record has no leads\n"),
+        (&["samples", "007.scp", "--lead", "3"], "007.scp: absent, number 10 (196 bytes): the record has no leads\n"),
+        (&["samples", "beat.scp", "--lead", "3"], "beat.scp: absent, number 10 (418 bytes): the record has no lead 3: it has 2 leads\n"),
+        (&["samples", "beat.scp", "--lead", "0"], "beat.scp: absent, number 10 (418 bytes): the record has no lead 0: --lead starts at 1\n"),
+    ] {
+        let ran = run(words);
+        assert_eq!((ran.status, ran.out.as_str(), ran.err.as_str()), (1, told, ""));
+    }
+    let ran = run(&["samples", "beat.scp", "--lead", "3", "--csv"]);
+    assert_eq!((ran.status, ran.out.as_str()), (1, ""));
+    assert!(
+        ran.err
+            .ends_with(": the record has no lead 3: it has 2 leads\n"),
+        "{}",
+        ran.err
+    );
 }
 
 /// An identifier is its bytes: its zeros and its NUL are shown, and 007 is not 7.

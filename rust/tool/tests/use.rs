@@ -265,17 +265,25 @@ fn a_place_is_a_number() {
         let ran = run(&["samples", "beat.scp", &format!("--lead={place}")]);
         assert_eq!((ran.status, ran.out.as_str()), (2, ""), "{place}");
         assert!(ran.err.contains("--lead"), "{}", ran.err);
+        let words = ["give the number of a lead, from 1\n", "a value is required"];
+        assert!(
+            words.iter().any(|words| ran.err.contains(words)),
+            "{}",
+            ran.err
+        );
     }
     for place in ["0", "3", "18446744073709551615"] {
         let ran = run(&["samples", "beat.scp", "--lead", place]);
         assert_eq!(ran.status, 1, "{place}");
-        assert_eq!(ran.first_line(), "beat.scp: refused, number 10 (418 bytes)");
+        let line =
+            format!("beat.scp: absent, number 10 (418 bytes): the record has no lead {place}: ");
+        assert!(ran.first_line().starts_with(&line), "{}", ran.out);
     }
 }
 
 #[test]
 fn help_says_all_of_it() {
-    let commands = "open fields leads samples check report pack write man completions";
+    let commands = "open fields leads samples check report pack write help man completions";
     let ran = run(&["--help"]);
     assert_eq!((ran.status, ran.err.as_str()), (0, ""));
     let words = [
@@ -289,13 +297,19 @@ fn help_says_all_of_it() {
     for word in commands.split(' ').chain(words) {
         assert!(ran.out.contains(word), "{word}\n{}", ran.out);
     }
-    let words = "--json --json --json --lead --jobs --json --force --force man SHELL";
+    let words = "--json --json --json --lead --jobs --json --preserve --force COMMAND man SHELL";
     for (command, word) in commands.split(' ').zip(words.split(' ')) {
         let ran = run(&[command, "--help"]);
         assert_eq!(ran.status, 0);
         let told = ran.out.contains(word) && ran.out.contains("Exit status:");
         assert!(told, "{}", ran.out);
+        let asked = run(&["help", command]);
+        assert_eq!((asked.status, asked.out), (0, ran.out), "{command}");
     }
+    assert_eq!(run(&["help"]).out, run(&["--help"]).out);
+    let ran = run(&["help", "chekc"]);
+    assert_eq!((ran.status, ran.out.as_str()), (2, ""));
+    assert!(ran.err.contains("'check'"), "{}", ran.err);
 }
 
 #[test]

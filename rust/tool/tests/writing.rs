@@ -2,17 +2,86 @@
 
 mod common;
 
-use std::fs::{self, File};
+use std::fs::{self, File, Permissions};
+use std::os::unix::fs::PermissionsExt;
 use std::path::Path;
 use std::process::{Command, Stdio};
+use std::time::{Duration, UNIX_EPOCH};
 
 use common::folder::Folder;
 use common::record::{put, seal, section};
-use common::{run, run_by_shell, run_on_terminal, sample, samples, tool, Ran};
+use common::{
+    run, run_by_shell, run_on_terminal, run_with_input, sample, samples, tool, Ran, NOTE,
+};
 use judge::make::{self, Rng};
 use judge::Writing;
 
 // ---- where a record is put
+
+/// A record that only its owner may read is not packed into one that others may.
+#[test]
+fn a_packed_record_has_the_permissions_of_its_source() {
+    let folder = Folder::new("modes");
+    let (source, out) = (
+        folder.file("in.scp", &sample("own-tables.scp")),
+        folder.path("out.scp"),
+    );
+    let mode = |path: &str| fs::metadata(path).unwrap().permissions().mode() & 0o777;
+    for (wanted, umask) in [
+        (0o600, "022"),
+        (0o640, "077"),
+        (0o644, "077"),
+        (0o444, "022"),
+    ] {
+        fs::set_permissions(&source, Permissions::from_mode(wanted)).unwrap();
+        for force in [&[][..], &["--force"]] {
+            let line = format!("umask {umask} && exec \"$@\"");
+            let ran = run_by_shell(&line, &[&["pack", &source, &out], force].concat());
+            assert_eq!(ran.status, 0, "{}", ran.err);
+            assert_eq!(mode(&out), wanted);
+            fs::set_permissions(&out, Permissions::from_mode(0o666)).unwrap();
+        }
+        fs::remove_file(&out).unwrap();
+    }
+    // standard input has none
+    let input = File::open(samples().join("own-tables.scp")).unwrap();
+    let ran = run_with_input(&["pack", "-", &out], input);
+    assert_eq!((ran.status, mode(&out) & 0o600), (0, 0o600));
+}
+
+#[test]
+fn a_modification_time_is_preserved_if_that_is_asked() {
+    let folder = Folder::new("times");
+    let (source, out) = (
+        folder.file("in.scp", &sample("own-tables.scp")),
+        folder.path("out.scp"),
+    );
+    let then = UNIX_EPOCH + Duration::new(1_234_567_890, 123_456_789);
+    File::options()
+        .write(true)
+        .open(&source)
+        .unwrap()
+        .set_modified(then)
+        .unwrap();
+    let modified = |path: &str| fs::metadata(path).unwrap().modified().unwrap();
+    assert_eq!(run(&["pack", "--preserve", &source, &out]).status, 0);
+    assert_eq!(modified(&out), then);
+    assert_eq!(run(&["pack", "--force", &source, &out]).status, 0);
+    assert_ne!(modified(&out), then);
+    assert_eq!(
+        run(&["pack", "--force", "--preserve", &source, &out]).status,
+        0
+    );
+    assert_eq!(modified(&out), then);
+    for words in [
+        ["pack", "--preserve", "-", &out],
+        ["pack", "--preserve", &source, "-"],
+    ] {
+        let ran = run(&words);
+        assert_eq!((ran.status, ran.out.as_str()), (2, ""));
+        assert!(ran.err.contains("have no modification time"), "{}", ran.err);
+    }
+}
 
 #[test]
 fn a_file_is_replaced_only_if_that_is_asked() {
@@ -21,7 +90,7 @@ fn a_file_is_replaced_only_if_that_is_asked() {
     for words in [["pack", "own-tables.scp"], ["write", "job.json"]] {
         let ran = run(&[words[0], words[1], &out]);
         assert_eq!((ran.status, ran.out.as_str()), (2, ""));
-        let told = "it is there already, and is replaced only with --force";
+        let told = "already exists; use --force to replace it";
         assert_eq!(ran.err, format!("tigmavresh: {out}: {told}\n"));
         assert_eq!(fs::read(&out).unwrap(), b"mine");
         let ran = run(&[words[0], words[1], &out, "--force"]);
@@ -62,7 +131,7 @@ fn what_is_no_file_is_not_replaced() {
         for force in [&[][..], &["--force"]] {
             let ran = run(&[&["write", "job.json", out], force].concat());
             assert_eq!((ran.status, ran.out.as_str()), (2, ""), "{out}");
-            let told = "it is there, and is no file";
+            let told = "exists but is not a regular file";
             assert_eq!(ran.err, format!("tigmavresh: {out}: {told}\n"));
         }
     }
@@ -73,7 +142,7 @@ fn what_is_no_file_is_not_replaced() {
 #[cfg(unix)]
 #[test]
 fn a_link_is_followed() {
-    use std::os::unix::fs::{symlink, PermissionsExt};
+    use std::os::unix::fs::symlink;
 
     let folder = Folder::new("links");
     let real = folder.file("real.scp", b"mine");
@@ -217,7 +286,7 @@ fn a_refused_record_is_not_packed() {
     let folder = Folder::new("not-packed");
     let out = folder.path("out.scp");
     for (name, number) in [
-        ("007.scp", 10),
+        ("refused-10.scp", 10),
         ("refused-2.scp", 2),
         ("refused-7.scp", 7),
         ("refused-9.scp", 9),
@@ -228,7 +297,7 @@ fn a_refused_record_is_not_packed() {
         assert_eq!((ran.status, ran.err.as_str()), (1, ""), "{name}");
         let line = format!("{name}: refused, number {number} (");
         assert!(ran.out.starts_with(&line), "{}", ran.out);
-        assert!(ran.out.contains("the tool's own look at the bytes"));
+        assert!(ran.out.contains(NOTE));
     }
     let ran = run(&["pack", "none.scp", &out]);
     assert_eq!(ran.status, 2);
@@ -496,6 +565,23 @@ fn the_example_is_the_sample() {
     assert!(page.contains(&format!("```json\n{job}```\n")));
 }
 
+/// What docs/JOBS.md says of jobs that are wrong is what the tool says.
+#[test]
+fn the_examples_of_wrong_jobs_are_true() {
+    let docs = Path::new(env!("CARGO_MANIFEST_DIR")).join("../../docs/JOBS.md");
+    let page = fs::read_to_string(docs).unwrap();
+    let folder = Folder::new("wrong-jobs");
+    for (job, csv) in [
+        (&[["\"version\": 13", "\"version\": 300"]][..], &[][..]),
+        (&[], &[["\n6,1,1", "\n6,1,40000"]]),
+        (&[["_order\": 2", "_order\": 3"]], &[]),
+    ] {
+        let ran = changed(&folder, job, csv);
+        let told = format!("{}{}", ran.out, ran.err).replace(&folder.path(""), "");
+        assert!(page.contains(&told), "{told}");
+    }
+}
+
 #[test]
 fn a_job_may_come_by_standard_input() {
     let folder = Folder::new("by-input");
@@ -690,7 +776,7 @@ const ONE_CODE: &str = "\"01 00 01 00 01 01 01 00 00 00 00 00 00\"";
 const NO_FIRST: [&str; 2] = [", \"first_sample\": 1", ""];
 
 /// Changes of a job and of its samples, the refusal, and what is found.
-const REFUSED: [(Changes, Changes, u8, &str); 11] = [
+const REFUSED: [(Changes, Changes, u8, &str); 12] = [
     (
         &[["\"tag\": 26", "\"tag\": 27"]],
         &[],
@@ -733,6 +819,17 @@ const REFUSED: [(Changes, Changes, u8, &str); 11] = [
         15,
         "lead 1, I: no code for its difference",
     ),
+    // the difference, not the sample
+    (
+        &[["\"default\"", "\"none\""]],
+        &[
+            ["\n1,0,0", "\n1,-32768,0"],
+            ["\n2,0,0", "\n2,32767,0"],
+            ["\n3,0,0", "\n3,-32768,0"],
+        ],
+        15,
+        "lead 1, I: no code for its difference of order 2 at sample 3, -131,070\n",
+    ),
     (
         &[["_order\": 2", "_order\": 3"]],
         &[],
@@ -769,7 +866,7 @@ fn assert_refused(folder: &Folder, ran: &Ran, number: u8, found: &str) {
     let line = format!("{}: refused, number {number}", folder.path("job.json"));
     assert_eq!(ran.first_line(), line);
     assert!(ran.out.contains(found), "{found}\n{}", ran.out);
-    assert!(ran.out.contains("the tool's own look at the job"));
+    assert!(ran.out.contains(NOTE));
     assert_eq!(folder.names(), ["job.csv", "job.json"]);
 }
 

@@ -1,15 +1,17 @@
 //! `tigmavresh fields FILE`: the header fields of a record, byte for byte.
 
+use std::mem;
 use std::path::Path;
 
-use scp::{Field, Refusal};
+use scp::Field;
 
+use crate::escape;
 use crate::input::{read_or_complain, Input};
 use crate::json;
 use crate::names;
 use crate::output::{hex, shown, Output};
-use crate::reading::Reading;
-use crate::refused;
+use crate::reading::{Reading, Value};
+use crate::refused::Refused;
 use crate::status::Status;
 use crate::table::{self, numbers, words, Column};
 
@@ -26,32 +28,36 @@ const BYTES_A_LINE: usize = 16;
 
 /// Shows the fields of a file, as a table or as JSON.
 pub fn run(file: &Path, json: bool, output: &mut Output) -> Status {
-    let Some(input) = read_or_complain(file, output) else {
+    let Some(input) = read_or_complain(file, json, output) else {
         return Status::NotDone;
     };
     output.block();
     let fields = scp::fields(&input.bytes).map(|fields| fields.collect::<Vec<_>>());
+    let fields = fields.map_err(|refusal| Refused::of(&input, 1, refusal));
     let status = match fields {
         Ok(_) => Status::Accepted,
         Err(_) => Status::Refused,
     };
     match (json, fields) {
-        (true, fields) => output.line(json::text(&as_json(file, &input, fields))),
+        (true, fields) => output.line(json::text(&as_json(file, &input, &fields))),
         (false, Ok(fields)) => show(file, &input.bytes, &fields, output),
-        (false, Err(refusal)) => {
-            refused::show(file, &input, refusal, output);
-            refused::footnote(output);
-        }
+        (false, Err(refused)) => output.lines(refused.text(file, &input)),
     }
     status
 }
 
 /// The fields, or the refusal, as JSON.
-fn as_json(file: &Path, input: &Input, fields: Result<Vec<Field>, Refusal>) -> json::Header {
-    let fields = fields.as_deref().map_err(|refusal| *refusal);
-    json::Header::new(file, input, fields, |field| {
-        field_as_json(field.tag, &input.bytes[field.range.clone()])
-    })
+fn as_json(
+    file: &Path,
+    input: &Input,
+    fields: &Result<Vec<Field>, Refused>,
+) -> json::About<json::Header> {
+    let field = |field: &Field| field_as_json(field.tag, &input.bytes[field.range.clone()]);
+    let header = fields.as_ref().ok().map(|fields| json::Header {
+        fields: fields.iter().map(field).collect(),
+    });
+    let about = json::About::judged(file, input.size, fields.as_ref().err());
+    about.holding(header).noted()
 }
 
 /// A field as JSON.
@@ -81,39 +87,53 @@ fn show(file: &Path, record: &[u8], fields: &[Field], output: &mut Output) {
 
 /// A field's rows of the table: one, or more if its bytes are many.
 fn rows(tag: u8, bytes: &[u8]) -> Vec<[String; 5]> {
-    let reading = Reading::of(tag, bytes);
-    let read = |part: &[u8]| match &reading {
-        Some(Reading::Text(_)) => quoted(part),
-        // these have few bytes, in one line
-        Some(Reading::Date(read) | Reading::Time(read)) => read.clone(),
-        None => String::new(),
-    };
-    let mut parts = bytes.chunks(BYTES_A_LINE);
-    let first = parts.next().unwrap_or_default();
-    let mut rows = vec![[
+    let hex_lines = bytes.chunks(BYTES_A_LINE).map(hex);
+    let mut hex_lines: Vec<String> = hex_lines.collect();
+    // an empty field has a line too
+    hex_lines.resize(hex_lines.len().max(1), String::new());
+    let mut texts = texts(tag, bytes).into_iter();
+    let mut head = [
         tag.to_string(),
         bytes.len().to_string(),
         names::field(tag).to_string(),
-        hex(first),
-        read(first),
-    ]];
-    let empty = String::new;
-    rows.extend(parts.map(|part| [empty(), empty(), empty(), hex(part), read(part)]));
-    rows
+    ];
+    let row = |hex| {
+        let [tag, length, name] = mem::take(&mut head);
+        [tag, length, name, hex, texts.next().unwrap_or_default()]
+    };
+    hex_lines.into_iter().map(row).collect()
 }
 
-/// Text in quotes, every byte of it to be seen.
-fn quoted(text: &[u8]) -> String {
-    let mut shown = String::from('"');
-    for &byte in text {
-        match byte {
-            0 => shown.push_str("\\0"),
-            b'"' | b'\\' => shown.extend(['\\', byte.into()]),
-            _ => shown.push(byte.into()),
-        }
+/// The text beside each line of a field's bytes: in quotes, or its date or time.
+fn texts(tag: u8, bytes: &[u8]) -> Vec<String> {
+    let reading = Reading::of(tag, bytes);
+    let mut texts = match reading.value {
+        Some(Value::Text(_) | Value::Escaped(_)) => quoted(bytes),
+        Some(Value::Date(read) | Value::Time(read)) => vec![read],
+        None => Vec::new(),
+    };
+    if let Some(remark) = reading.remark {
+        texts.resize(texts.len().max(1), String::new());
+        let remarked = format!("{} ({remark})", texts[0]);
+        texts[0] = remarked.trim_start().to_string();
     }
-    shown.push('"');
-    shown
+    texts
+}
+
+/// Text in quotes, every byte of it to be seen, as it stands beside the lines of its bytes. A character stands where its
+/// first byte does.
+fn quoted(text: &[u8]) -> Vec<String> {
+    let mut lines = vec![String::new(); text.len().div_ceil(BYTES_A_LINE)];
+    let mut at = 0;
+    for piece in escape::pieces(text) {
+        let line = &mut lines[at / BYTES_A_LINE];
+        match piece.shown.as_str() {
+            "\"" => line.push_str("\\\""),
+            shown => line.push_str(shown),
+        }
+        at += piece.bytes;
+    }
+    lines.iter().map(|line| format!("\"{line}\"")).collect()
 }
 
 #[cfg(test)]
@@ -129,7 +149,19 @@ mod tests {
 
     #[test]
     fn every_byte_of_a_text_is_seen() {
-        assert_eq!(quoted(b"\"\\ \0"), r#""\"\\ \0""#);
+        assert_eq!(quoted(b"\"\\ \0"), [r#""\"\\ \0""#]);
+        assert_eq!(quoted(b"M\xFCller\n"), [r#""M\xFCller\n""#]);
+        assert_eq!(quoted("\u{202e}é\0".as_bytes()), [r#""\u{202e}é\0""#]);
+    }
+
+    #[test]
+    fn a_character_over_the_end_of_a_line_stands_in_the_first() {
+        let text = format!("{}é{}", "x".repeat(15), "y".repeat(15));
+        let lines = [
+            format!("\"{}é\"", "x".repeat(15)),
+            format!("\"{}\"", "y".repeat(15)),
+        ];
+        assert_eq!(quoted(text.as_bytes()), lines);
     }
 
     #[test]
@@ -139,8 +171,13 @@ mod tests {
         assert_eq!(shown(5, &[0xA8, 7, 11, 2]), "1960-11-02");
         assert_eq!(shown(26, &[9, 26, 53]), "09:26:53");
         assert_eq!(shown(26, &[0, 32, 33]), "00:32:33");
-        assert_eq!(shown(25, &[0xE8, 7, 13, 14]), "");
-        assert_eq!(shown(26, &[24, 26, 53]), "");
+        assert_eq!(
+            shown(25, &[0xE8, 7, 13, 14]),
+            "(not a date in the calendar)"
+        );
+        assert_eq!(shown(5, &[0xE8, 7, 2, 31]), "(not a date in the calendar)");
+        assert_eq!(shown(5, b"1960"), "\"1960\" (not a date in the calendar)");
+        assert_eq!(shown(26, &[24, 26, 53]), "(not a time of day)");
     }
 
     #[test]

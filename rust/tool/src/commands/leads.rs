@@ -2,13 +2,13 @@
 
 use std::path::Path;
 
-use scp::{Entry, Refusal};
+use scp::Entry;
 
 use crate::input::{read_or_complain, Input};
 use crate::json::{self, bits_in_hundredths};
 use crate::names;
 use crate::output::{shown, Output};
-use crate::refused;
+use crate::refused::Refused;
 use crate::status::Status;
 use crate::table::{self, numbers, words, Column};
 
@@ -27,36 +27,36 @@ const COLUMNS: [Column; 10] = [
 
 /// Shows the leads of a file, as a table or as JSON.
 pub fn run(file: &Path, json: bool, output: &mut Output) -> Status {
-    let Some(input) = read_or_complain(file, output) else {
+    let Some(input) = read_or_complain(file, json, output) else {
         return Status::NotDone;
     };
     output.block();
-    let leads = scp::leads(&input.bytes);
+    let leads = scp::leads(&input.bytes).map_err(|refusal| Refused::of(&input, 1, refusal));
     let status = match leads {
         Ok(_) => Status::Accepted,
         Err(_) => Status::Refused,
     };
     match (json, leads) {
-        (true, leads) => output.line(json::text(&as_json(file, &input, leads))),
+        (true, leads) => output.line(json::text(&as_json(file, &input, &leads))),
         (false, Ok(leads)) => show(file, &leads, output),
-        (false, Err(refusal)) => {
-            refused::show(file, &input, refusal, output);
-            refused::footnote(output);
-        }
+        (false, Err(refused)) => output.lines(refused.text(file, &input)),
     }
     status
 }
 
 /// The leads, or the refusal, as JSON.
-fn as_json(file: &Path, input: &Input, leads: Result<Vec<Entry>, Refusal>) -> json::Record {
-    match leads {
-        Ok(leads) => {
-            let lead = |(place, entry)| json::Lead::new(place, entry);
-            let all = (1..).zip(&leads).map(lead).collect();
-            json::Record::with(file, input, &leads[0], all)
-        }
-        Err(refusal) => json::Record::refused(file, input, json::Refused::new(input, 1, refusal)),
-    }
+fn as_json(
+    file: &Path,
+    input: &Input,
+    leads: &Result<Vec<Entry>, Refused>,
+) -> json::About<json::Rhythm> {
+    let lead = |(place, entry)| json::Lead::new(place, entry);
+    let rhythm = leads.as_ref().ok().map(|leads| {
+        let all = (1..).zip(leads).map(lead).collect();
+        json::Rhythm::new(&leads[0], all)
+    });
+    let about = json::About::judged(file, input.size, leads.as_ref().err());
+    about.holding(rhythm).noted()
 }
 
 /// Shows the leads of a record that was accepted.

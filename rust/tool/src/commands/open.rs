@@ -7,8 +7,8 @@ use scp::Pointer;
 use crate::input::{Input, Reader, Size};
 use crate::json;
 use crate::names;
-use crate::output::{reason, shown, Output};
-use crate::refused;
+use crate::output::{shown, Output};
+use crate::refused::{self, Refused};
 use crate::status::Status;
 use crate::table::{self, numbers, words, Column};
 use crate::tally::Tally;
@@ -30,12 +30,13 @@ pub fn run(files: &[PathBuf], json: bool, output: &mut Output) -> Status {
             Ok(input) => open(file, &input, json, &mut tally, output),
             Err(error) => {
                 if json {
-                    output.line(json::line(&json::Unread::new(file, reason(&error))));
+                    output.line(json::line(&json::unread(file, &error)));
                 }
                 output.complain(file, &error);
                 tally.not_read += 1;
             }
         }
+        output.flush();
     }
     conclude(&tally, json, output);
     tally.status()
@@ -48,15 +49,30 @@ fn open(file: &Path, input: &Input, json: bool, tally: &mut Tally, output: &mut 
         Ok(_) => tally.accepted += 1,
         Err(refusal) => tally.refuse(refusal),
     }
+    let opened = opened.map_err(|refusal| Refused::of(input, 1, refusal));
     if json {
-        let opened = opened.as_deref().map_err(|refusal| *refusal);
-        return output.line(json::line(&json::Opened::new(file, input, opened)));
+        return output.line(json::line(&as_json(file, input, &opened)));
     }
     output.block();
     match opened {
         Ok(pointers) => show(file, input.size, &pointers, output),
-        Err(refusal) => refused::show(file, input, refusal, output),
+        Err(refused) => {
+            output.line(refused.heading(file, input));
+            output.lines(refused.lines());
+        }
     }
+}
+
+/// The pointers, or the refusal, as JSON.
+fn as_json(
+    file: &Path,
+    input: &Input,
+    opened: &Result<Vec<Pointer>, Refused>,
+) -> json::About<json::Pointers> {
+    let pointers = opened.as_ref().ok().map(|pointers| json::Pointers {
+        pointers: pointers.iter().map(json::Pointer::from).collect(),
+    });
+    json::About::judged(file, input.size, opened.as_ref().err()).holding(pointers)
 }
 
 /// Shows how many files were accepted, refused and not read: as text if there are several.

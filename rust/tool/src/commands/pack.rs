@@ -7,13 +7,13 @@ use std::path::Path;
 use scp::{Entry, Pointer, Refusal};
 
 use super::write::say;
-use crate::input::{read_or_complain, Input};
+use crate::input::{is_standard, read_or_complain, Input};
 use crate::making::{Making, DEFAULT_TABLE, HEADER};
 use crate::names;
 use crate::output::{parted, shown, shown_target, Output};
-use crate::refused;
+use crate::refused::Refused;
 use crate::status::Status;
-use crate::store::Target;
+use crate::store::{Target, Traits};
 use crate::table::{self, numbers, words, Column};
 
 const COLUMNS: [Column; 5] = [
@@ -29,32 +29,70 @@ const POINTERS: usize = 12;
 /// The sections that are written.
 const WRITTEN: [u16; 5] = [0, 1, 2, 3, 6];
 
+/// Said where there is no time to preserve.
+const NO_TIME: &str =
+    "--preserve needs IN and OUT to be files: standard input and output have no modification time";
+
+/// How a file is to be put.
+#[derive(Clone, Copy)]
+pub struct Asked {
+    /// In the place of one that is there.
+    pub force: bool,
+    /// With the modification time of the file that is packed.
+    pub preserve: bool,
+}
+
 /// Packs a file, and puts the record where it is asked for.
-pub fn run(file: &Path, out: &Path, force: bool, output: &mut Output) -> Status {
+pub fn run(file: &Path, out: &Path, asked: Asked, output: &mut Output) -> Status {
+    let Asked { force, preserve } = asked;
+    if preserve && (is_standard(file) || is_standard(out)) {
+        output.remark(&[NO_TIME.to_string()]);
+        return Status::NotDone;
+    }
     let Some(target) = Target::or_complain(out, force, output) else {
         return Status::NotDone;
     };
-    let Some(input) = read_or_complain(file, output) else {
+    let Some(input) = read_or_complain(file, false, output) else {
         return Status::NotDone;
     };
+    let traits = input.metadata.as_ref();
+    let traits = traits.map_or(Ok(Traits::default()), |file| Traits::of(file, preserve));
+    match traits {
+        Ok(traits) => pack(file, &input, out, &target, &traits, output),
+        Err(error) => {
+            output.complain(file, &error);
+            Status::NotDone
+        }
+    }
+}
+
+/// Packs a record that was read.
+fn pack(
+    file: &Path,
+    input: &Input,
+    out: &Path,
+    target: &Target,
+    traits: &Traits,
+    output: &mut Output,
+) -> Status {
     let parsed = match Parsed::of(&input.bytes) {
         Ok(parsed) => parsed,
-        Err((place, refusal)) => return refuse(file, &input, place, refusal, &target, output),
+        Err((place, refusal)) => return refuse(file, input, place, refusal, target, output),
     };
     let losses = parsed.losses();
     if !losses.is_empty() {
-        leave_alone(file, &losses, &target, output);
+        leave_alone(file, &losses, target, output);
         return Status::Refused;
     }
     let (making, packed) = match parsed.packed() {
         Ok(packed) => packed,
-        Err((place, refusal)) => return refuse(file, &input, place, refusal, &target, output),
+        Err((place, refusal)) => return refuse(file, input, place, refusal, target, output),
     };
     let check = |back: &[u8]| {
         making.is_said_by(back)?;
         parsed.is_kept_in(back)
     };
-    if let Err(error) = target.put(&packed, check) {
+    if let Err(error) = target.put(&packed, traits, check) {
         output.complain_of_target(out, &error);
         return Status::NotDone;
     }
@@ -63,7 +101,7 @@ pub fn run(file: &Path, out: &Path, force: bool, output: &mut Output) -> Status 
     if let Ok(after) = scp::leads(&packed) {
         lines.extend(rows(&parsed.entries, &after));
     }
-    say(&lines, &target, output);
+    say(&lines, target, output);
     Status::Accepted
 }
 
@@ -76,11 +114,8 @@ fn refuse(
     target: &Target,
     output: &mut Output,
 ) -> Status {
-    let mut lines = vec![refused::heading(file, input, refusal)];
-    lines.extend(refused::lines(input, place, refusal));
-    lines.push(String::new());
-    lines.push(refused::NOTE.to_string());
-    say(&lines, target, output);
+    let refused = Refused::of(input, place, refusal);
+    say(&refused.text(file, input), target, output);
     Status::Refused
 }
 
@@ -130,11 +165,11 @@ struct Parsed<'a> {
 }
 
 /// A refusal where the lead at a place was asked for.
-type Refused = (usize, Refusal);
+type Placed = (usize, Refusal);
 
 impl<'a> Parsed<'a> {
     /// Takes a record apart, if it has leads that the rules allow.
-    fn of(record: &'a [u8]) -> Result<Parsed<'a>, Refused> {
+    fn of(record: &'a [u8]) -> Result<Parsed<'a>, Placed> {
         let whole = |refusal| (1, refusal);
         let pointers = scp::open(record).map_err(whole)?;
         let entries = scp::leads(record).map_err(whole)?;
@@ -279,7 +314,7 @@ impl<'a> Parsed<'a> {
     }
 
     /// What the packed record is made of: all leads read.
-    fn making(&self) -> Result<Making, Refused> {
+    fn making(&self) -> Result<Making, Placed> {
         let entry = self.entries[0];
         let mut making = Making {
             section1: self.used(1).to_vec(),
@@ -300,7 +335,7 @@ impl<'a> Parsed<'a> {
     }
 
     /// What the packed record is made of, and the record.
-    fn packed(&self) -> Result<(Making, Vec<u8>), Refused> {
+    fn packed(&self) -> Result<(Making, Vec<u8>), Placed> {
         let making = self.making()?;
         let packed = scp::written(&making.job()).map_err(|refusal| (1, refusal))?;
         Ok((making, packed))
@@ -308,7 +343,7 @@ impl<'a> Parsed<'a> {
 
     /// Whether a packed record has all that this one has: Sections 1 to 3 bit for bit, and the heads of the others.
     fn is_kept_in(&self, packed: &[u8]) -> Result<(), String> {
-        let refused = |(_, refusal): Refused| format!("it is refused: {refusal}");
+        let refused = |(_, refusal): Placed| format!("it is refused: {refusal}");
         let packed = Parsed::of(packed).map_err(refused)?;
         let kept = |id, part: Range<usize>| self.part(id, &part) == packed.part(id, &part);
         let holds = [1, 2, 3].into_iter().all(|id| kept(id, 0..usize::MAX))

@@ -9,7 +9,7 @@ use crate::input::{read_or_complain, Input};
 use crate::json;
 use crate::names;
 use crate::output::{shown, Output};
-use crate::refused;
+use crate::refused::{self, Refused};
 use crate::rules;
 use crate::status::Status;
 use crate::table::{self, numbers, words, Column};
@@ -21,22 +21,18 @@ const ALONE: u8 = 9;
 const RULES: [Column; 3] = [numbers("Rule"), words(""), words("Answer")];
 const LEADS: [Column; 3] = [numbers("Lead"), words(""), words("Answer")];
 
-/// Whose word the answers are, and whose the explanations.
-const NOTE: &str =
-    "The answers are the proved library's; what was found is the tool's own look at the bytes, to explain them.";
-
-/// What the library says of a rule, asked alone.
+/// The library's answer to a rule, asked alone.
 struct Answer {
     /// The refusal of its rule.
     refusal: Refusal,
     is_broken: bool,
     /// Whether every rule before it is kept.
     is_certain: bool,
-    /// Of a rule that is broken; nothing, where that is not certain and nothing can be pointed at.
+    /// Empty if the rule is kept, or if it is not certain that it is broken and nothing can be pointed at.
     found: Vec<String>,
 }
 
-/// What reading a lead answers.
+/// The answer to reading a lead.
 struct Read {
     place: usize,
     entry: Entry,
@@ -54,7 +50,7 @@ struct Report<'a> {
 
 /// Reports on a file, as text or as JSON.
 pub fn run(file: &Path, json: bool, output: &mut Output) -> Status {
-    let Some(input) = read_or_complain(file, output) else {
+    let Some(input) = read_or_complain(file, json, output) else {
         return Status::NotDone;
     };
     let report = Report::of(file, &input);
@@ -82,7 +78,7 @@ impl Answer {
         let answer = if self.is_broken { "broken" } else { "kept" };
         match self.is_certain {
             true => answer.to_string(),
-            false => format!("{answer}, as it seems"),
+            false => format!("probably {answer}"),
         }
     }
 
@@ -156,7 +152,7 @@ impl<'a> Report<'a> {
         }
     }
 
-    /// What is not certain, if something is not.
+    /// Which answers are not certain, if some are not.
     fn caution(&self) -> Option<String> {
         let first = self.answers.iter().find(|answer| answer.is_broken)?;
         let last = self.answers.last().filter(|last| !last.is_certain)?;
@@ -171,15 +167,20 @@ impl<'a> Report<'a> {
         ))
     }
 
-    /// What was found of the file as a whole.
+    /// The things found in the file as a whole.
     fn found(&self) -> Vec<String> {
         let foreign = explain::foreign(&self.input.bytes);
         foreign.into_iter().collect()
     }
 
-    /// Whose word is what, if something was found.
-    fn note(&self) -> Option<&'static str> {
-        matches!(self.verdict, Verdict::Refused { .. }).then_some(NOTE)
+    /// Why the record is refused, if it is.
+    fn refused(&self) -> Option<Refused> {
+        match self.verdict {
+            Verdict::Refused { refusal, lead } => {
+                Some(Refused::of(self.input, lead.unwrap_or(1), refusal))
+            }
+            Verdict::Accepted { .. } => None,
+        }
     }
 
     // ---- text
@@ -198,9 +199,8 @@ impl<'a> Report<'a> {
             output.block();
             output.line(caution);
         }
-        if let Some(note) = self.note() {
-            output.block();
-            output.line(note);
+        if matches!(self.verdict, Verdict::Refused { .. }) {
+            refused::footnote(output);
         }
     }
 
@@ -218,7 +218,7 @@ impl<'a> Report<'a> {
                     "No lead is read: the record is refused, number {number}"
                 ));
                 if number > ALONE {
-                    output.lines(refused::lines(self.input, 1, refusal));
+                    output.lines(Refused::of(self.input, 1, refusal).lines());
                 }
             }
             Verdict::Accepted { .. } => {
@@ -230,20 +230,14 @@ impl<'a> Report<'a> {
                 output.block();
                 let (place, name) = (lead.place, names::lead(lead.entry.id));
                 output.line(format_args!("Lead {place}, {name}: {}", lead.words()));
-                output.lines(refused::lines(self.input, place, refusal));
+                output.lines(Refused::of(self.input, place, refusal).lines());
             }
         }
     }
 
     // ---- JSON
 
-    fn as_json(&self) -> json::Report {
-        let found = match self.verdict {
-            Verdict::Refused { refusal, lead } => {
-                refused::found(self.input, lead.unwrap_or(1), refusal)
-            }
-            Verdict::Accepted { .. } => Vec::new(),
-        };
+    fn as_json(&self) -> json::About<json::Report> {
         let rule = |answer: &Answer| json::Rule {
             number: answer.number(),
             name: answer.name(),
@@ -252,17 +246,19 @@ impl<'a> Report<'a> {
             found: answer.found.clone(),
         };
         let lead = |lead: &Read| {
-            let refused = |refusal| json::Refused::new(self.input, lead.place, refusal);
-            json::Lead::new(lead.place, &lead.entry).answered(lead.refusal.map(refused))
+            let refused = |refusal| Refused::of(self.input, lead.place, refusal);
+            let refused = lead.refusal.map(refused);
+            json::Lead::new(lead.place, &lead.entry).answered(refused.as_ref())
         };
-        json::Report {
-            verdict: json::Checked::new(self.file, self.input.size, self.verdict, found),
-            found: self.found(),
+        let report = json::Report {
+            counted: self.verdict.lead_count(),
             rules: self.answers.iter().map(rule).collect(),
             leads: self.leads.iter().map(lead).collect(),
             caution: self.caution(),
-            note: self.note(),
-        }
+        };
+        let about = json::About::judged(self.file, self.input.size, self.refused().as_ref());
+        let about = about.of_lead(self.verdict.lead());
+        about.holding(Some(report)).noted()
     }
 }
 

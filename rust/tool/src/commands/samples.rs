@@ -10,7 +10,7 @@ use crate::input::{read_or_complain, Input};
 use crate::json;
 use crate::names;
 use crate::output::{shown, Output};
-use crate::refused;
+use crate::refused::{self, Refused};
 use crate::status::Status;
 
 /// How many samples stand in a line of text.
@@ -54,7 +54,7 @@ impl Read {
 
 /// Shows the samples of a file, of all leads or of one.
 pub fn run(file: &Path, place: Option<usize>, form: Form, output: &mut Output) -> Status {
-    let Some(input) = read_or_complain(file, output) else {
+    let Some(input) = read_or_complain(file, matches!(form, Form::Json), output) else {
         return Status::NotDone;
     };
     output.block();
@@ -71,7 +71,8 @@ pub fn run(file: &Path, place: Option<usize>, form: Form, output: &mut Output) -
             }
         }
         Err(refusal) => {
-            refuse(file, &input, place.unwrap_or(1), refusal, form, output);
+            let refused = Refused::of(&input, place.unwrap_or(1), refusal);
+            refuse(file, &input, &refused, form, output);
             Status::Refused
         }
     }
@@ -91,29 +92,14 @@ fn read(record: &[u8], place: Option<usize>) -> Result<Vec<Read>, Refusal> {
     Ok(entries.into_iter().map(read).collect())
 }
 
-/// Shows that a record is refused.
-fn refuse(
-    file: &Path,
-    input: &Input,
-    place: usize,
-    refusal: Refusal,
-    form: Form,
-    output: &mut Output,
-) {
+/// Shows that a record is refused, or has not the lead that was asked for.
+fn refuse(file: &Path, input: &Input, refused: &Refused, form: Form, output: &mut Output) {
     match form {
-        Form::Text => {
-            refused::show_asked(file, input, place, refusal, output);
-            refused::footnote(output);
-        }
-        Form::Csv => {
-            let mut lines = vec![refused::heading(file, input, refusal)];
-            lines.extend(refused::lines(input, place, refusal));
-            lines.push(refused::NOTE.to_string());
-            output.remark(&lines);
-        }
+        Form::Text => output.lines(refused.text(file, input)),
+        Form::Csv => output.remark(&refused.text(file, input)),
         Form::Json => {
-            let refused = json::Refused::new(input, place, refusal);
-            output.line(json::text(&json::Record::refused(file, input, refused)));
+            let about = json::About::<json::Rhythm>::judged(file, input.size, Some(refused));
+            output.line(json::text(&about.noted()));
         }
     }
 }
@@ -129,7 +115,7 @@ fn as_text(file: &Path, input: &Input, leads: &[Read], output: &mut Output) {
             Err(refusal) => {
                 let number = refusal.number();
                 output.line(format_args!("{}: refused, number {number}", lead.title()));
-                output.lines(refused::lines(input, lead.place, *refusal));
+                output.lines(Refused::of(input, lead.place, *refusal).lines());
             }
         }
     }
@@ -188,7 +174,7 @@ fn as_csv(file: &Path, input: &Input, leads: &[Read], output: &mut Output) {
         if let Err(refusal) = lead.samples {
             let (name, title, number) = (shown(file), lead.title(), refusal.number());
             remarks.push(format!("{name}: {title}: refused, number {number}"));
-            remarks.extend(refused::lines(input, lead.place, refusal));
+            remarks.extend(Refused::of(input, lead.place, refusal).lines());
         }
     }
     if !remarks.is_empty() {
@@ -257,16 +243,26 @@ fn reason(error: csv::Error) -> io::Error {
 
 // ---- JSON
 
-fn as_json(file: &Path, input: &Input, leads: &[Read]) -> json::Record {
-    let lead = |lead: &Read| {
-        let read = match &lead.samples {
-            Ok(samples) => Ok(samples.as_slice()),
-            Err(refusal) => Err(json::Refused::new(input, lead.place, *refusal)),
-        };
-        json::Lead::new(lead.place, &lead.entry).with(read)
+/// The refusal of the first lead that is refused stands for the record.
+fn as_json(file: &Path, input: &Input, leads: &[Read]) -> json::About<json::Rhythm> {
+    let refused = |lead: &Read| {
+        let refusal = *lead.samples.as_ref().err()?;
+        Some(Refused::of(input, lead.place, refusal))
     };
-    let first = &leads[0].entry;
-    json::Record::with(file, input, first, leads.iter().map(lead).collect())
+    let first = leads
+        .iter()
+        .find_map(|lead| Some((lead.place, refused(lead)?)));
+    let (place, first) = first.unzip();
+    let lead = |lead: &Read| {
+        let told = json::Lead::new(lead.place, &lead.entry).answered(refused(lead).as_ref());
+        match &lead.samples {
+            Ok(samples) => told.with(samples),
+            Err(_) => told,
+        }
+    };
+    let rhythm = json::Rhythm::new(&leads[0].entry, leads.iter().map(lead).collect());
+    let about = json::About::judged(file, input.size, first.as_ref()).of_lead(place);
+    about.holding(Some(rhythm)).noted()
 }
 
 #[cfg(test)]

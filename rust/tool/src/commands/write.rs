@@ -11,7 +11,7 @@ use crate::making::Making;
 use crate::output::{parted, shown, shown_target, Output};
 use crate::refused;
 use crate::status::Status;
-use crate::store::Target;
+use crate::store::{Target, Traits};
 
 /// Makes a record from a job, and puts it where it is asked for.
 pub fn run(file: &Path, out: &Path, force: bool, output: &mut Output) -> Status {
@@ -32,7 +32,7 @@ pub fn run(file: &Path, out: &Path, force: bool, output: &mut Output) -> Status 
             return Status::Refused;
         }
     };
-    if let Err(error) = target.put(&record, |back| making.is_said_by(back)) {
+    if let Err(error) = target.put(&record, &Traits::default(), |back| making.is_said_by(back)) {
         output.complain_of_target(out, &error);
         return Status::NotDone;
     }
@@ -53,7 +53,7 @@ fn refuse(file: &Path, making: &Making, refusal: Refusal, target: &Target, outpu
         &explain::found_in_job(making, refusal),
     ));
     lines.push(String::new());
-    lines.push(refused::JOB_NOTE.to_string());
+    lines.push(refused::NOTE.to_string());
     say(&lines, target, output);
 }
 

@@ -40,10 +40,10 @@ fn without_stream(making: &Making) -> Vec<String> {
             let lengths: Vec<usize> = (1..=samples.len()).collect();
             let reached = lengths.partition_point(|&length| !refused(&samples[..length]));
             let number = u64::from(making.firsts[at]) + reached as u64;
-            let sample = samples[reached.min(samples.len() - 1)];
+            let difference = making.stored(samples, reached.min(samples.len() - 1));
             let (lead, order) = (lead(making, at), making.order);
             format!(
-                "{lead}: no code for its difference of order {order} at sample {number}, {sample}"
+                "{lead}: no code for its difference of order {order} at sample {number}, {difference}"
             )
         })
         .collect()

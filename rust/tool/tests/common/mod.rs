@@ -4,6 +4,7 @@
 
 pub mod folder;
 pub mod record;
+pub mod schema;
 
 use std::env;
 use std::fs;
@@ -11,6 +12,9 @@ use std::path::{Path, PathBuf};
 use std::process::{Command, Output, Stdio};
 
 use folder::Folder;
+
+/// What ends an answer in which a refusal is explained.
+pub const NOTE: &str = "The proved library decided; the explanation is not proved.";
 
 /// The folder of sample records.
 pub fn samples() -> PathBuf {

@@ -1,0 +1,144 @@
+//! The JSON of every command has the shape that docs/output.schema.json says.
+
+mod common;
+
+use std::ffi::OsStr;
+use std::fs;
+use std::os::unix::ffi::OsStrExt;
+use std::path::Path;
+
+use common::folder::Folder;
+use common::schema::Schema;
+use common::{run, run_in, run_with_input, samples, tool, Ran};
+use serde_json::{json, Value};
+
+/// The commands that show an object in each line, and those that show one.
+const MANY: [&str; 2] = ["open", "check"];
+const ONE: [&str; 4] = ["fields", "leads", "samples", "report"];
+
+fn schema() -> Schema {
+    let file = Path::new(env!("CARGO_MANIFEST_DIR")).join("../../docs/output.schema.json");
+    Schema::of(&fs::read_to_string(file).unwrap())
+}
+
+/// The objects that were shown.
+fn objects(ran: &Ran) -> Vec<Value> {
+    let objects = serde_json::Deserializer::from_str(&ran.out).into_iter();
+    objects.collect::<Result<_, _>>().unwrap()
+}
+
+/// The objects that a command shows, each held to the schema, without the summary.
+fn told(command: &str, ran: &Ran) -> Vec<Value> {
+    let mut objects = objects(ran);
+    for object in &objects {
+        if let Err(wrong) = schema().check(object) {
+            panic!("{command}: {wrong}");
+        }
+    }
+    if MANY.contains(&command) {
+        let summary = objects.pop().unwrap();
+        assert!(summary.get("summary").is_some(), "{summary}");
+        assert!(summary.get("verdict").is_none(), "{summary}");
+    }
+    for object in &objects {
+        assert!(object.get("summary").is_none(), "{object}");
+    }
+    objects
+}
+
+/// The names of all samples.
+fn names() -> Vec<String> {
+    let files = samples().read_dir().unwrap();
+    let names = files.map(|file| file.unwrap().file_name().into_string().unwrap());
+    names.filter(|name| name.ends_with(".scp")).collect()
+}
+
+/// Every command's answer to every sample: the shape, and the verdict that goes with the status and the refusal.
+#[test]
+fn every_command_keeps_the_schema() {
+    for command in MANY.into_iter().chain(ONE) {
+        for name in names() {
+            let ran = run(&[command, "--json", &name]);
+            let objects = told(command, &ran);
+            assert_eq!(objects.len(), 1, "{command} {name}");
+            let (verdict, refusal) = (&objects[0]["verdict"], &objects[0]["refusal"]);
+            assert_eq!(
+                ran.status,
+                i32::from(verdict != "accepted"),
+                "{command} {name}"
+            );
+            assert_eq!(verdict == "accepted", refusal.is_null(), "{command} {name}");
+            assert_eq!(objects[0]["file"], name.as_str());
+        }
+    }
+}
+
+/// A file that cannot be read has an object as well, in every command.
+#[test]
+fn a_file_that_cannot_be_read_is_told() {
+    for command in MANY.into_iter().chain(ONE) {
+        let ran = run(&[command, "--json", "none.scp"]);
+        assert_eq!(ran.status, 2);
+        assert_eq!(ran.err, "tigmavresh: none.scp: No such file or directory\n");
+        let unread = json!({"file": "none.scp", "verdict": "unread", "refusal": null, "error": "No such file or directory"});
+        assert_eq!(told(command, &ran), [unread], "{command}");
+    }
+}
+
+/// What is asked for and is not there; names and fields that are no text; input that is too long.
+#[test]
+fn rare_answers_keep_the_schema() {
+    for words in [
+        &["samples", "--json", "beat.scp", "--lead", "3"][..],
+        &["samples", "--json", "beat.scp", "--lead", "2"],
+        &["leads", "--json", "007.scp"],
+    ] {
+        told(words[0], &run(words));
+    }
+    let folder = Folder::new("rare");
+    let name = OsStr::from_bytes(b"\xFF.scp");
+    fs::copy(samples().join("7.scp"), folder.0.join(name)).unwrap();
+    for command in MANY.into_iter().chain(ONE) {
+        let output = tool()
+            .current_dir(&folder.0)
+            .args([command, "--json"])
+            .arg(name)
+            .output();
+        let ran = Ran::from(output.unwrap());
+        assert_eq!(told(command, &ran)[0]["file_bytes"], "FF 2E 73 63 70");
+        let zeros = fs::File::open("/dev/zero").unwrap();
+        let ran = run_with_input(&[command, "--json", "-"], zeros);
+        let long = &told(command, &ran)[0];
+        assert!(
+            long.get("bytes").is_none() && long["refusal"] == 1,
+            "{long}"
+        );
+    }
+    fs::create_dir(folder.path("empty")).unwrap();
+    assert!(told("check", &run_in(&folder, &["check", "--json", "empty"])).is_empty());
+}
+
+/// The schema allows nothing else than what is shown.
+#[test]
+fn the_schema_refuses_other_shapes() {
+    let schema = schema();
+    let good = objects(&run(&["check", "--json", "007.scp"]));
+    schema.check(&good[0]).unwrap();
+    for (key, value) in [
+        ("verdict", json!("refused")),
+        ("verdict", json!("fine")),
+        ("refusal", json!(10)),
+        ("lead_count", json!(-1)),
+        ("lead_count", json!("0")),
+        ("more", json!(1)),
+    ] {
+        let mut bad = good[0].clone();
+        bad[key] = value;
+        assert!(schema.check(&bad).is_err(), "{bad}");
+    }
+    for key in ["file", "verdict", "refusal"] {
+        let mut bad = good[0].clone();
+        bad.as_object_mut().unwrap().remove(key);
+        assert!(schema.check(&bad).is_err(), "{bad}");
+    }
+}
