@@ -17,56 +17,56 @@ section-of-requires-2 c κs = search needs
 lead-id-requires : tie.Need-lead-id-requires
 lead-id-requires c κs = search needs
 
-cast-t8 : tie.Need-cast-t8
-cast-t8 c = search needs
+cast-t6 : tie.Need-cast-t6
+cast-t6 c = search needs
 
 flags-of-requires : tie.Need-flags-of-requires
 flags-of-requires c κs = search needs
 
-cast-t10 : tie.Need-cast-t10
-cast-t10 c = search needs
+cast-t8 : tie.Need-cast-t8
+cast-t8 c = search needs
 
 order-of-requires : tie.Need-order-of-requires
 order-of-requires c κs = search needs
 
-cast-t12 : tie.Need-cast-t12
-cast-t12 c = search needs
+cast-t10 : tie.Need-cast-t10
+cast-t10 c = search needs
 
 step-of-requires : tie.Need-step-of-requires
 step-of-requires c κs = search needs
 
-cast-t14 : tie.Need-cast-t14
-cast-t14 c = search needs
+cast-t12 : tie.Need-cast-t12
+cast-t12 c = search needs
 
 interval-of-requires : tie.Need-interval-of-requires
 interval-of-requires c κs = search needs
 
-cast-t16 : tie.Need-cast-t16
-cast-t16 c = search needs
+cast-t14 : tie.Need-cast-t14
+cast-t14 c = search needs
 
 first-sample-requires : tie.Need-first-sample-requires
 first-sample-requires c κs = search needs
 
-cast-t18 : tie.Need-cast-t18
-cast-t18 c = search needs
+cast-t16 : tie.Need-cast-t16
+cast-t16 c = search needs
 
 last-sample-requires : tie.Need-last-sample-requires
 last-sample-requires c κs = search needs
 
-cast-t20 : tie.Need-cast-t20
-cast-t20 c = search needs
+cast-t18 : tie.Need-cast-t18
+cast-t18 c = search needs
 
 leads-of-requires : tie.Need-leads-of-requires
 leads-of-requires c κs = search needs
 
-cast-t22 : tie.Need-cast-t22
-cast-t22 c = search needs
+cast-t20 : tie.Need-cast-t20
+cast-t20 c = search needs
 
 stream-bytes-requires : tie.Need-stream-bytes-requires
 stream-bytes-requires c κs = search needs
 
-cast-t24 : tie.Need-cast-t24
-cast-t24 c = search needs
+cast-t22 : tie.Need-cast-t22
+cast-t22 c = search needs
 
 returns : tie.Need-returns
 returns c =
@@ -92,21 +92,21 @@ entry-at-spec =
     section-of-requires
     section-of-requires-2
     lead-id-requires
-    cast-t8
+    cast-t6
     flags-of-requires
-    cast-t10
+    cast-t8
     order-of-requires
-    cast-t12
+    cast-t10
     step-of-requires
-    cast-t14
+    cast-t12
     interval-of-requires
-    cast-t16
+    cast-t14
     first-sample-requires
-    cast-t18
+    cast-t16
     last-sample-requires
-    cast-t20
+    cast-t18
     leads-of-requires
-    cast-t22
+    cast-t20
     stream-bytes-requires
-    cast-t24
+    cast-t22
     returns)

@@ -27,38 +27,38 @@ section-of-requires-2 c κs = search needs
 lead-id-requires : tie.Need-lead-id-requires
 lead-id-requires c κs = search needs
 
-cast-t8 : tie.Need-cast-t8
-cast-t8 c = search needs
+cast-t6 : tie.Need-cast-t6
+cast-t6 c = search needs
 
 flags-of-requires : tie.Need-flags-of-requires
 flags-of-requires c κs = search needs
 
-cast-t10 : tie.Need-cast-t10
-cast-t10 c = search needs
+cast-t8 : tie.Need-cast-t8
+cast-t8 c = search needs
 
 step-of-requires : tie.Need-step-of-requires
 step-of-requires c κs = search needs
 
-cast-t12 : tie.Need-cast-t12
-cast-t12 c = search needs
+cast-t10 : tie.Need-cast-t10
+cast-t10 c = search needs
 
 interval-of-requires : tie.Need-interval-of-requires
 interval-of-requires c κs = search needs
 
-cast-t14 : tie.Need-cast-t14
-cast-t14 c = search needs
+cast-t12 : tie.Need-cast-t12
+cast-t12 c = search needs
 
 first-sample-requires : tie.Need-first-sample-requires
 first-sample-requires c κs = search needs
 
-cast-t16 : tie.Need-cast-t16
-cast-t16 c = search needs
+cast-t14 : tie.Need-cast-t14
+cast-t14 c = search needs
 
 sample-count-requires : tie.Need-sample-count-requires
 sample-count-requires c κs = search needs
 
-cast-t18 : tie.Need-cast-t18
-cast-t18 c = let e = count c in omega arith
+cast-t16 : tie.Need-cast-t16
+cast-t16 c = let e = count c in omega arith
 
 returns : tie.Need-returns
 returns c xs e =
@@ -82,15 +82,15 @@ lead-at-spec =
     section-of-requires
     section-of-requires-2
     lead-id-requires
-    cast-t8
+    cast-t6
     flags-of-requires
-    cast-t10
+    cast-t8
     step-of-requires
-    cast-t12
+    cast-t10
     interval-of-requires
-    cast-t14
+    cast-t12
     first-sample-requires
-    cast-t16
+    cast-t14
     sample-count-requires
-    cast-t18
+    cast-t16
     returns)
