@@ -163,7 +163,7 @@ static void no_such_field(void) {
     make();
     for (size_t k = 0; k < sizeof asked / sizeof asked[0]; k++) {
         ScpPart part = scp_field(record, SIZE, asked[k].tag, asked[k].occurrence);
-        EXPECT(part.refusal == 10);
+        EXPECT(part.refusal == SCP_REFUSED_ABSENT);
         EXPECT(part.start == 0);
         EXPECT(part.length == 0);
     }
@@ -228,33 +228,33 @@ static void refused(uint8_t number, const uint8_t *bytes, size_t n) {
 
 static void refusals(void) {
     make();
-    refused(1, record, 0);
-    refused(1, record, 141);
-    refused(1, record, SIZE - 1);
+    refused(SCP_REFUSED_LENGTH, record, 0);
+    refused(SCP_REFUSED_LENGTH, record, 141);
+    refused(SCP_REFUSED_LENGTH, record, SIZE - 1);
 
     make();
     record[1] ^= 1;
-    refused(2, record, SIZE);
+    refused(SCP_REFUSED_RECORD_CHECK, record, SIZE);
 
     make();
     record[SECTION_0 + 10] = 's';
     seal();
-    refused(3, record, SIZE);
+    refused(SCP_REFUSED_SECTION_0, record, SIZE);
 
     make();
     put(POINTER_1 + 2, 4, 0); /* Section 1 absent */
     seal();
-    refused(4, record, SIZE);
+    refused(SCP_REFUSED_PLACES, record, SIZE);
 
     make();
     record[SECTION_1] ^= 1;
     seal_record();
-    refused(5, record, SIZE);
+    refused(SCP_REFUSED_SECTION_CHECK, record, SIZE);
 
     make();
     record[SECTION_1 + 22] = '!'; /* the identifier without its NUL */
     seal();
-    refused(6, record, SIZE);
+    refused(SCP_REFUSED_SECTION_1, record, SIZE);
 }
 
 /* ---- calls that refuse nothing */
@@ -368,14 +368,14 @@ static void two_bytes_a_value(void) {
     lead_is(1, 8, 0, 0, 1, 0, 1, one, 8);
     lead_is(2, 8, 0, 0, 2, 0, 1, two, 8);
     lead_is(2, LEAD_ROOM, LEAD_ROOM, 0, 2, 0, 1, two, 8); /* no beat: the work space is untouched */
-    lead_refused(11, 1, 7, 0, 0);
-    lead_refused(11, 1, 0, LEAD_ROOM, 0);
-    lead_refused(10, 0, LEAD_ROOM, LEAD_ROOM, 0);
-    lead_refused(10, 3, LEAD_ROOM, LEAD_ROOM, 0);
-    lead_refused(10, SIZE_MAX, LEAD_ROOM, LEAD_ROOM, 0);
+    lead_refused(SCP_REFUSED_ROOM, 1, 7, 0, 0);
+    lead_refused(SCP_REFUSED_ROOM, 1, 0, LEAD_ROOM, 0);
+    lead_refused(SCP_REFUSED_ABSENT, 0, LEAD_ROOM, LEAD_ROOM, 0);
+    lead_refused(SCP_REFUSED_ABSENT, 3, LEAD_ROOM, LEAD_ROOM, 0);
+    lead_refused(SCP_REFUSED_ABSENT, SIZE_MAX, LEAD_ROOM, LEAD_ROOM, 0);
     entry_is(2, (ScpEntry){.id = 2, .order = 1, .step = 5000, .interval = 2000, .first = 1, .last = 8, .leads = 2, .bytes = 16});
-    entry_is(0, (ScpEntry){.refusal = 10});
-    entry_is(3, (ScpEntry){.refusal = 10});
+    entry_is(0, (ScpEntry){.refusal = SCP_REFUSED_ABSENT});
+    entry_is(3, (ScpEntry){.refusal = SCP_REFUSED_ABSENT});
     EXPECT(broken_row() == 0);
 }
 
@@ -395,25 +395,30 @@ static void subtracted_beat(void) {
     load("beat.scp");
     lead_is(2, 26, 8, 8, 2, 5, 5, two, 26);
     lead_is(2, LEAD_ROOM, LEAD_ROOM, LEAD_ROOM, 2, 5, 5, two, 26); /* all of the work space is zeros */
-    lead_refused(11, 2, 26, 7, 0);
-    lead_refused(11, 2, 25, 8, 0);
-    lead_refused(11, 2, 26, 0, 0);
+    lead_refused(SCP_REFUSED_ROOM, 2, 26, 7, 0);
+    lead_refused(SCP_REFUSED_ROOM, 2, 25, 8, 0);
+    lead_refused(SCP_REFUSED_ROOM, 2, 26, 0, 0);
 }
 
 /* Records that open, and are refused in all leads or in the second. */
 static void refused_leads(void) {
     static const struct { const char *name; uint8_t number; size_t cleared; } asked[] = {
-        {"refused-7.scp", 7, 0},   {"refused-8.scp", 8, 0},           {"refused-9.scp", 9, 0},   {"refused-10.scp", 10, 0},
-        {"refused-12.scp", 12, 0}, {"refused-13.scp", 13, LEAD_ROOM}, {"refused-14.scp", 14, 0}
+        {"refused-7.scp", SCP_REFUSED_SECTION_2, 0},
+        {"refused-8.scp", SCP_REFUSED_SECTIONS_3_TO_6, 0},
+        {"refused-9.scp", SCP_REFUSED_BIMODAL_STEP_INTERVAL, 0},
+        {"refused-10.scp", SCP_REFUSED_ABSENT, 0},
+        {"refused-12.scp", SCP_REFUSED_CODE, 0},
+        {"refused-13.scp", SCP_REFUSED_SAMPLE, LEAD_ROOM},
+        {"refused-14.scp", SCP_REFUSED_LEFT_OVER_BITS, 0}
     };
     for (size_t k = 0; k < sizeof asked / sizeof asked[0]; k++) {
         uint8_t number = asked[k].number;
         load(asked[k].name);
         EXPECT(open_guarded(file, file_size).refusal == 0);
         lead_refused(number, 2, LEAD_ROOM, LEAD_ROOM, asked[k].cleared);
-        EXPECT(broken_row() == (number <= 9 ? number : 0));
-        EXPECT(scp_lead(file, file_size, 2).refusal == (number <= 10 ? number : 0));
-        if (number > 10) EXPECT(read_guarded(1, LEAD_ROOM, LEAD_ROOM).refusal == 0);
+        EXPECT(broken_row() == (number <= SCP_REFUSED_BIMODAL_STEP_INTERVAL ? number : 0));
+        EXPECT(scp_lead(file, file_size, 2).refusal == (number <= SCP_REFUSED_ABSENT ? number : 0));
+        if (number > SCP_REFUSED_ABSENT) EXPECT(read_guarded(1, LEAD_ROOM, LEAD_ROOM).refusal == 0);
     }
     for (char number = '1'; number <= '6'; number++) {
         char name[] = "refused-N.scp";
@@ -497,36 +502,36 @@ static void encoding(void) {
     by_default.work_n = by_default.out_n = CODE_ROOM;
     coded_is(by_default, 0, seven_coded, 9, 71, CODE_ROOM); /* all of the work space is zeros */
     by_default.out_n = 8;
-    code_refused(by_default, 11, CODE_ROOM);
+    code_refused(by_default, SCP_REFUSED_ROOM, CODE_ROOM);
     by_default.work_n = 6;
-    code_refused(by_default, 11, 0);
+    code_refused(by_default, SCP_REFUSED_ROOM, 0);
     by_default.n2 = 1;
-    code_refused(by_default, 7, 0);
+    code_refused(by_default, SCP_REFUSED_SECTION_2, 0);
     by_default.order = 3;
-    code_refused(by_default, 17, 0);
+    code_refused(by_default, SCP_REFUSED_WRITER_BOUNDS, 0);
 
     /* by two tables: 15 once is 1111 and 8 bits, 15 twice is 1110, then twice 0 and 8 bits */
     static const int16_t fifteen[] = {15, 15};
     static const uint8_t once[] = {0xF0, 0xF0}, twice[] = {0xE0, 0x78, 0x3C};
     coded_is((Asked){example, sizeof example, fifteen, 1, 0, 2, 2}, 0, once, 2, 12, 2);
     coded_is((Asked){example, sizeof example, fifteen, 2, 0, 4, 3}, 0, twice, 3, 22, 4);
-    code_refused((Asked){example, sizeof example, fifteen, 2, 0, 3, 3}, 11, 0);
-    code_refused((Asked){example, sizeof example, fifteen, 0, 0, 4, 3}, 17, 0);
+    code_refused((Asked){example, sizeof example, fifteen, 2, 0, 3, 3}, SCP_REFUSED_ROOM, 0);
+    code_refused((Asked){example, sizeof example, fifteen, 0, 0, 4, 3}, SCP_REFUSED_WRITER_BOUNDS, 0);
 
     /* a difference of -131070 has no code anywhere */
     static const int16_t widest[] = {-32768, 32767, -32768};
-    code_refused((Asked){default_table, 2, widest, 3, 2, CODE_ROOM, CODE_ROOM}, 15, CODE_ROOM);
-    code_refused((Asked){default_table, 0, widest, 3, 2, CODE_ROOM, CODE_ROOM}, 15, 0);
+    code_refused((Asked){default_table, 2, widest, 3, 2, CODE_ROOM, CODE_ROOM}, SCP_REFUSED_NO_STREAM, CODE_ROOM);
+    code_refused((Asked){default_table, 0, widest, 3, 2, CODE_ROOM, CODE_ROOM}, SCP_REFUSED_NO_STREAM, 0);
 
     /* without Section 2 there is no search */
     static const uint8_t plain_coded[] = {0, 0x80, 0xFF, 0x7F, 0, 0x80};
     coded_is((Asked){default_table, 0, widest, 3, 0, CODE_ROOM, 6}, 0, plain_coded, 6, 48, 0);
-    code_refused((Asked){default_table, 0, widest, 3, 0, 0, 5}, 11, 0);
+    code_refused((Asked){default_table, 0, widest, 3, 0, 0, 5}, SCP_REFUSED_ROOM, 0);
 
     static const int16_t many[SCP_SAMPLES_MAX + 1];
-    code_refused((Asked){default_table, 0, many, 32768, 0, CODE_ROOM, CODE_ROOM}, 16, 0);
-    code_refused((Asked){default_table, 2, many, SCP_SAMPLES_MAX, 0, CODE_ROOM, CODE_ROOM}, 11, 0);
-    code_refused((Asked){default_table, 2, many, SCP_SAMPLES_MAX + 1, 0, CODE_ROOM, CODE_ROOM}, 17, 0);
+    code_refused((Asked){default_table, 0, many, 32768, 0, CODE_ROOM, CODE_ROOM}, SCP_REFUSED_TOO_LONG, 0);
+    code_refused((Asked){default_table, 2, many, SCP_SAMPLES_MAX, 0, CODE_ROOM, CODE_ROOM}, SCP_REFUSED_ROOM, 0);
+    code_refused((Asked){default_table, 2, many, SCP_SAMPLES_MAX + 1, 0, CODE_ROOM, CODE_ROOM}, SCP_REFUSED_WRITER_BOUNDS, 0);
 }
 
 /* ---- writing */
@@ -612,17 +617,17 @@ static void writing(void) {
     asked.out_n = written.bytes;
     EXPECT(write_guarded(asked).refusal == 0);
     asked.out_n--;
-    write_refused(asked, 11, 7);
+    write_refused(asked, SCP_REFUSED_ROOM, 7);
     asked.work_n = CODE_ROOM;
-    write_refused(asked, 11, CODE_ROOM); /* all of the work space is zeros */
+    write_refused(asked, SCP_REFUSED_ROOM, CODE_ROOM); /* all of the work space is zeros */
     asked.work_n = 6;
-    write_refused(asked, 11, 0);
+    write_refused(asked, SCP_REFUSED_ROOM, 0);
     asked.n2 = 1;
-    write_refused(asked, 7, 0);
+    write_refused(asked, SCP_REFUSED_SECTION_2, 0);
     asked.n1--;
-    write_refused(asked, 6, 0);
+    write_refused(asked, SCP_REFUSED_SECTION_1, 0);
     asked.order = 3;
-    write_refused(asked, 17, 0);
+    write_refused(asked, SCP_REFUSED_WRITER_BOUNDS, 0);
 
     /* row 17, one by one */
     for (unsigned fault = 0; fault < 8; fault++) {
@@ -635,7 +640,7 @@ static void writing(void) {
         if (fault == 5) asked.interval = 0;
         if (fault == 6) asked.order = 255;
         if (fault == 7) asked.nf = asked.nc = asked.ni = asked.ns = 0;
-        write_refused(asked, 17, 0);
+        write_refused(asked, SCP_REFUSED_WRITER_BOUNDS, 0);
     }
 
     /* without Section 2 there is no search, and a value takes two bytes */
@@ -648,7 +653,7 @@ static void writing(void) {
     EXPECT(code_room_holds(code_work, no_bytes, 0));
     written_is_read(written.bytes, 44);
     asked.out_n = written.bytes - 1;
-    write_refused(asked, 11, 0);
+    write_refused(asked, SCP_REFUSED_ROOM, 0);
 }
 
 int main(int count, char **words) {

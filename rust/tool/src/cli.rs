@@ -288,8 +288,7 @@ pub enum Command {
 
 /// A refusal, by its number.
 fn refusal() -> impl TypedValueParser<Value = Refusal> {
-    let numbers = 1..=i64::from(Refusal::COUNT);
-    value_parser!(u8).range(numbers).try_map(Refusal::try_from)
+    value_parser!(u8).try_map(Refusal::try_from)
 }
 
 #[cfg(test)]

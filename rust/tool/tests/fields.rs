@@ -77,7 +77,7 @@ fn every_file_has_a_line() {
         lines[0],
         json!({"file": "refused-2.scp", "bytes": 372, "refusal": {
             "number": 2,
-            "rule": "a record's first two bytes are the check of all that follow",
+            "rule": "a record's first two bytes are the CRC of all that follow",
             "found": ["the check stored is 0x5937, that of the bytes 0x5A44"],
         }})
     );

@@ -10,6 +10,7 @@ use std::process::{Command, Stdio};
 
 use common::folder::Folder;
 use common::{run, run_in, samples, Ran};
+use scp::Refusal;
 
 /// The commands, as the help lists them.
 fn commands() -> Vec<String> {
@@ -42,7 +43,7 @@ fn other(program: &str, words: &[&str], input: &str) -> Option<Ran> {
 #[test]
 fn every_refusal_is_explained() {
     let mut names = Vec::new();
-    for number in 1..=17 {
+    for number in Refusal::all().map(Refusal::number) {
         let ran = run(&["--explain", &number.to_string()]);
         assert_eq!((ran.status, ran.err.as_str()), (0, ""));
         let name = ran
@@ -55,8 +56,8 @@ fn every_refusal_is_explained() {
     let all = names.len();
     names.sort();
     names.dedup();
-    assert_eq!((names.len(), all), (17, 17));
-    for number in ["0", "18", "256", "-1", "one", ""] {
+    assert_eq!((names.len(), all), (all, Refusal::all().count()));
+    for number in ["0", "255", "256", "-1", "one", ""] {
         let ran = run(&[&format!("--explain={number}")]);
         assert_eq!((ran.status, ran.out.as_str()), (2, ""), "{number}");
     }

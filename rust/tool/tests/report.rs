@@ -104,7 +104,7 @@ fn every_rule_that_is_broken_is_shown() {
     for lines in [
         "     5  section checks           kept\n     6  Section 1                broken\n",
         "     8  Sections 3 to 6          kept, as it seems\n     9  bimodal, step, interval  broken, as it seems\n",
-        "\nRule 6, Section 1: broken\n  rule broken  Section 1 is whole fields",
+        "\nRule 6, Section 1: broken\n  rule broken  Section 1 is complete fields",
         "\n  found        tag 2 has no NUL at its end\n",
         "\nRule 9, bimodal, step, interval: broken, as it seems\n  found        the interval is 1000 in Section 5 and 2000",
         "\nNo lead is read: the record is refused, number 6\n",
@@ -141,7 +141,7 @@ fn every_lead_is_read() {
         assert!(leads[0].get("samples").is_none());
     }
     let ran = run(&["report", "refused-10.scp"]);
-    let text = "\nNo lead is read: the record is refused, number 10\n  rule broken  what is asked for is in the record\n  found        Section 6 is absent\n";
+    let text = "\nNo lead is read: the record is refused, number 10\n  rule broken  the record has such a lead or field\n  found        Section 6 is absent\n";
     assert!(ran.out.contains(text), "{}", ran.out);
 }
 
