@@ -21,7 +21,7 @@ pub use rhythm::MadeLead;
 pub use rng::Rng;
 pub use writing::{to_encode, to_write, ToEncode, ToWrite};
 
-use crate::leads::beat_count;
+use crate::beat::beat_count;
 use draft::{Draft, Holds, Wish};
 
 /// A sound record with the leads that it must be read to.
