@@ -77,9 +77,9 @@ fn a_record_is_a_line() {
 limb-leads.scp: accepted (410 bytes; 6 leads)
 007.scp: accepted (196 bytes; no lead)
 refused-12.scp: refused, number 12, lead 2 (406 bytes); rule broken: each value has a complete code of the current table; \
-found: Section 6, lead 2: no value for sample 13: the stream ends inside the code at bit 47 of 48
+found: Section 6, lead 2: no value for sample 13: the stream ends inside the code at bit 47 of 48 (byte 406)
 refused-1.scp: refused, number 1 (352 bytes); rule broken: a record has 142 to 1,048,576 bytes, as many as its size field says; \
-found: the length is 352 bytes, and the size field says 372
+found: the length is 352 bytes; the size field says 372
 
 The refusal is the proved library's; what was found is the tool's own look at the bytes, to explain it.
 

@@ -78,7 +78,7 @@ fn every_file_has_a_line() {
         json!({"file": "refused-2.scp", "bytes": 372, "refusal": {
             "number": 2,
             "rule": "a record's first two bytes are the CRC of all that follow",
-            "found": ["the check stored is 0x5937, that of the bytes 0x5A44"],
+            "found": ["the CRC stored is 0x5937, and the bytes give 0x5A44"],
         }})
     );
     assert_eq!(
@@ -173,7 +173,7 @@ fn fields_of_a_refused_record_are_not_told() {
     assert_eq!(shown["refusal"]["number"], 6);
     assert_eq!(
         shown["refusal"]["found"],
-        json!(["tag 2 has no NUL at its end"])
+        json!(["tag 2 has no NUL at its end (byte 159)"])
     );
     assert!(shown.get("fields").is_none());
     assert!(shown["note"].as_str().unwrap().contains("own look"));

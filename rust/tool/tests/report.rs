@@ -105,7 +105,7 @@ fn every_rule_that_is_broken_is_shown() {
         "     5  section checks           kept\n     6  Section 1                broken\n",
         "     8  Sections 3 to 6          kept, as it seems\n     9  bimodal, step, interval  broken, as it seems\n",
         "\nRule 6, Section 1: broken\n  rule broken  Section 1 is complete fields",
-        "\n  found        tag 2 has no NUL at its end\n",
+        "\n  found        tag 2 has no NUL at its end (byte 159)\n",
         "\nRule 9, bimodal, step, interval: broken, as it seems\n  found        the interval is 1000 in Section 5 and 2000",
         "\nNo lead is read: the record is refused, number 6\n",
         "\nRules 7 to 9 were asked alone, of bytes that break rule 6: the answer is a hint, and not certain.\n",
