@@ -6,7 +6,7 @@ use judge::make::Rng;
 use judge::Refused;
 use scp::raw;
 
-use crate::calls::{hold, number, same, Difference};
+use crate::answers::{hold, number, same, Difference};
 use crate::draft;
 use crate::guarded::{self, Right};
 use crate::tally::{Call, Tally};

@@ -6,7 +6,8 @@ use std::thread;
 
 use compare::encoding::{self, Job};
 use compare::extremes;
-use compare::inputs::{self, Filling, Kind};
+use compare::inputs::{self, Kind};
+use compare::largest::{largest, Filling};
 use compare::writing::{self, counts::Counts, edges};
 use judge::make::{self, Rng, ToWrite};
 use judge::Refused;
@@ -71,7 +72,7 @@ fn on_a_small_stack(records: Vec<Vec<u8>>) -> Vec<Answers> {
 #[test]
 fn the_largest_records_fit_a_small_stack() {
     let records: Vec<_> = [Filling::EmptyFields, Filling::LongFields]
-        .map(inputs::largest)
+        .map(largest)
         .into();
     let answers = on_a_small_stack(records.clone());
     for (answers, record) in answers.iter().zip(&records) {

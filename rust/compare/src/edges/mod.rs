@@ -7,7 +7,7 @@ mod streams;
 mod tables;
 
 use crate::draft::Draft;
-use crate::inputs::plain_fields;
+use crate::largest::plain_fields;
 use crate::rhythm::{two_bytes, Rhythm, Span, Stored};
 
 /// A record, what it is, and the refusals that it is to get: 0 if it is to be accepted.

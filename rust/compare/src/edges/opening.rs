@@ -4,7 +4,7 @@ use judge::make::{mend, mend_size};
 
 use super::Edges;
 use crate::draft::{pointer_to, seal, section, with_header, Draft, HEADER, SECTION_0};
-use crate::inputs::{largest, Filling};
+use crate::largest::{largest, Filling};
 
 /// Adds them all.
 pub fn add(edges: &mut Edges) {
