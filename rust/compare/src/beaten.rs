@@ -11,11 +11,7 @@ use crate::rhythm::{
 
 /// Leads of different spans with a reference beat, whose zones lie across the leads' ends, between them and beyond them.
 pub fn beaten(rng: &mut Rng) -> Vec<u8> {
-    let tables = match rng.below(4) {
-        0 => Vec::new(),
-        1 => own_tables(),
-        _ => DEFAULT_TABLE.to_vec(),
-    };
+    let tables = any_tables(rng);
     let base = match rng.one_in(4) {
         true => rng.four().min(u32::MAX - 2000),
         false => 0,
@@ -63,6 +59,15 @@ fn streams(tables: &[u8], size: usize, counts: &[usize], rng: &mut Rng) -> Store
     let mut stored = Stored::new(order, counts.iter().map(stream).collect());
     stored.interval = 1000;
     stored
+}
+
+/// No Section 2, tables of the record's own, or the default table.
+fn any_tables(rng: &mut Rng) -> Vec<u8> {
+    match rng.below(4) {
+        0 => Vec::new(),
+        1 => own_tables(),
+        _ => DEFAULT_TABLE.to_vec(),
+    }
 }
 
 /// Tables with switches there and back, in which every value of 16 bits has a code.

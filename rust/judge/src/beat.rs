@@ -2,7 +2,7 @@
 //! (01, Leads and samples).
 
 use crate::bounds;
-use crate::finding::{self, Findings, LeadFault, Needs, Part, Spot, What};
+use crate::finding::{self, Findings, Needs, Part, Spot, What, ZoneFault};
 use crate::numbers::Bytes;
 use crate::stored::Stored;
 
@@ -110,7 +110,7 @@ fn zone(qrs: &mut Bytes, spot: &mut Spot) -> Option<Zone> {
             end,
         });
     }
-    let fault = LeadFault::ZoneOfType {
+    let fault = ZoneFault::OfType {
         qrs_type,
         start,
         end,
@@ -129,12 +129,12 @@ impl Zone {
     /// of its own: that rises by one with n, so its ends decide.
     fn judge(&self, before: u32, fiducial: u16, count: Option<usize>, spot: &mut Spot) {
         let (start, end) = (self.start, self.end);
-        if spot.hold(1 <= start && start <= end, LeadFault::Zone { start, end }) {
-            spot.hold(before < start, LeadFault::ZoneOverlap { start, before });
+        if spot.hold(1 <= start && start <= end, ZoneFault::Empty { start, end }) {
+            spot.hold(before < start, ZoneFault::Overlap { start, before });
         }
         let [first, last] = [start, end].map(|n| self.beat_sample(n, fiducial));
         if let Some(samples) = count {
-            let fault = LeadFault::ZoneOutside {
+            let fault = ZoneFault::Outside {
                 first,
                 last,
                 samples,

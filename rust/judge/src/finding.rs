@@ -200,21 +200,16 @@ pub enum CodeFault {
 #[derive(Clone, Debug, PartialEq, Eq)]
 pub enum LeadFault {
     /// The first sample is after the last.
-    Backwards { first: u32, last: u32 },
-    /// The byte counts of Section 5 or 6 do not add up to the bytes that are there.
-    ByteCounts { sum: usize, left: usize },
-    /// A QRS of a type without a zone that has one.
-    ZoneOfType { qrs_type: u16, start: u32, end: u32 },
-    /// A zone that is empty or starts at 0.
-    Zone { start: u32, end: u32 },
-    /// A zone that starts before the one before it has ended.
-    ZoneOverlap { start: u32, before: u32 },
-    /// A zone that needs samples the beat does not have.
-    ZoneOutside {
-        first: i64,
-        last: i64,
-        samples: usize,
+    Backwards {
+        first: u32,
+        last: u32,
     },
+    /// The byte counts of Section 5 or 6 do not add up to the bytes that are there.
+    ByteCounts {
+        sum: usize,
+        left: usize,
+    },
+    Zone(ZoneFault),
     /// Section 6 says that it is bimodal.
     Bimodal,
     /// A step or interval that differs in Sections 5 and 6.
@@ -226,7 +221,27 @@ pub enum LeadFault {
     /// The lead's place was 0.
     PlaceZero,
     /// There is no lead at this place.
-    NoLead { place: usize, leads: usize },
+    NoLead {
+        place: usize,
+        leads: usize,
+    },
+}
+
+/// What is wrong with a zone of the reference beat.
+#[derive(Clone, Debug, PartialEq, Eq)]
+pub enum ZoneFault {
+    /// A QRS of a type without a zone that has one.
+    OfType { qrs_type: u16, start: u32, end: u32 },
+    /// A zone that is empty or starts at 0.
+    Empty { start: u32, end: u32 },
+    /// A zone that starts before the one before it has ended.
+    Overlap { start: u32, before: u32 },
+    /// A zone that needs samples the beat does not have.
+    Outside {
+        first: i64,
+        last: i64,
+        samples: usize,
+    },
 }
 
 /// What is wrong with a lead's stream, or with samples that are to be put into one.
@@ -282,6 +297,12 @@ impl From<CodeFault> for Fault {
 impl From<LeadFault> for Fault {
     fn from(fault: LeadFault) -> Self {
         Fault::Lead(fault)
+    }
+}
+
+impl From<ZoneFault> for Fault {
+    fn from(fault: ZoneFault) -> Self {
+        Fault::Lead(LeadFault::Zone(fault))
     }
 }
 

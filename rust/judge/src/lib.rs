@@ -35,6 +35,7 @@ pub use check::crc;
 pub use encoding::{encode_lead, Coded};
 pub use finding::{
     CodeFault, Fault, FieldFault, Finding, FrameFault, LeadFault, Needs, Part, StreamFault, What,
+    ZoneFault,
 };
 pub use header::{same_identifier, walk_step, Step};
 pub use judging::{breaks, findings};

@@ -398,17 +398,8 @@ fn what_is_written_is_read_back() {
 }
 
 #[test]
-fn writing_is_refused_in_its_order() {
+fn a_job_is_judged_before_its_samples() {
     let spare = [&FIELDS[..], &[0]].concat();
-    let long = [&[9, 255, 255][..], &[7; 65_535]].concat().repeat(16);
-    let long = [&long[..], &FIELDS].concat();
-    let wide = Job {
-        firsts: &[1],
-        counts: &[3],
-        ids: &[1],
-        samples: &[-32768, 32767, -32768],
-        ..JOB
-    };
     let broken = Job {
         section1: &spare,
         section2: &[1],
@@ -435,6 +426,19 @@ fn writing_is_refused_in_its_order() {
         refused(Job { section1, ..broken }, 0, 0),
         (Refusal::SECTION_2, false)
     );
+}
+
+#[test]
+fn writing_is_refused_in_its_order() {
+    let long = [&[9, 255, 255][..], &[7; 65_535]].concat().repeat(16);
+    let long = [&long[..], &FIELDS].concat();
+    let wide = Job {
+        firsts: &[1],
+        counts: &[3],
+        ids: &[1],
+        samples: &[-32768, 32767, -32768],
+        ..JOB
+    };
     assert_eq!(refused(wide, 2, 0), (Refusal::ROOM, false));
     assert_eq!(refused(wide, 3, 0), (Refusal::NO_STREAM, true));
     let section2 = &[][..];

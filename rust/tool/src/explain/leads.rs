@@ -1,6 +1,6 @@
 //! Rows 8, 9 and 10: Sections 3 to 6.
 
-use judge::{Finding, LeadFault, What};
+use judge::{Finding, LeadFault, What, ZoneFault};
 
 use super::section;
 
@@ -13,23 +13,7 @@ pub fn words(finding: &Finding, fault: &LeadFault) -> String {
         LeadFault::ByteCounts { sum, left } => {
             format!("the byte counts of {name} add up to {sum}, and {left} bytes are there")
         }
-        LeadFault::ZoneOfType {
-            qrs_type,
-            start,
-            end,
-        } => format!("type {qrs_type} must have zone 0 to 0; it has {start} to {end}"),
-        LeadFault::Zone { start: 0, end } => format!("the zone starts at sample 0 (to {end})"),
-        LeadFault::Zone { start, end } => {
-            format!("the zone starts at sample {start}, after its end, {end}")
-        }
-        LeadFault::ZoneOverlap { start, before } => {
-            format!("the zone starts at {start}, and the one before it ends at {before}")
-        }
-        LeadFault::ZoneOutside {
-            first,
-            last,
-            samples,
-        } => format!("the zone takes beat samples {first} to {last}; the beat has 1 to {samples}"),
+        LeadFault::Zone(ref fault) => zone(fault),
         LeadFault::Bimodal => format!("{name} uses bimodal compression (its bimodal byte is 1)"),
         LeadFault::Differs {
             what,
@@ -47,5 +31,28 @@ pub fn words(finding: &Finding, fault: &LeadFault) -> String {
         LeadFault::NoLead { place, leads } => {
             format!("there is no lead {place}: Section 3 has {leads}")
         }
+    }
+}
+
+/// What is wrong with a zone of the reference beat.
+fn zone(fault: &ZoneFault) -> String {
+    match *fault {
+        ZoneFault::OfType {
+            qrs_type,
+            start,
+            end,
+        } => format!("type {qrs_type} must have zone 0 to 0; it has {start} to {end}"),
+        ZoneFault::Empty { start: 0, end } => format!("the zone starts at sample 0 (to {end})"),
+        ZoneFault::Empty { start, end } => {
+            format!("the zone starts at sample {start}, after its end, {end}")
+        }
+        ZoneFault::Overlap { start, before } => {
+            format!("the zone starts at {start}, and the one before it ends at {before}")
+        }
+        ZoneFault::Outside {
+            first,
+            last,
+            samples,
+        } => format!("the zone takes beat samples {first} to {last}; the beat has 1 to {samples}"),
     }
 }

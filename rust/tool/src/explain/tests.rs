@@ -1,7 +1,7 @@
 //! Tests of the explanations: all that is refused is explained, in words that are worth reading.
 
 use judge::make::{aimed, noise, Rng};
-use judge::{row, CodeFault, Fault, Finding, FrameFault, LeadFault, Needs, Part, What};
+use judge::{row, CodeFault, Fault, Finding, FrameFault, Needs, Part, What, ZoneFault};
 use scp::Refusal;
 
 use super::{disagreement, explained, found, line, seen, Looked, Subject};
@@ -142,45 +142,29 @@ fn places_are_told_in_plain_words() {
 #[test]
 fn code_structures_are_told_in_plain_words() {
     let part = Part::Structure { table: 1, place: 3 };
-    let cases = [
+    let switch = |table, tables| CodeFault::SwitchTo { table, tables };
+    let base = |code, prefix_bits| CodeFault::BaseCode { code, prefix_bits };
+    let prefixes = |own: &str, other: &str| CodeFault::Prefixes {
+        own: own.to_string(),
+        place: 2,
+        other: other.to_string(),
+    };
+    for (fault, words) in [
         (
-            CodeFault::BaseCode {
-                code: 0x1F00_0000,
-                prefix_bits: 1,
-            },
+            base(0x1F00_0000, 1),
             "base code 0x1F000000 does not fit its 1-bit prefix",
         ),
+        (switch(0, 2), "switches to table 0; only 1 and 2 exist"),
+        (switch(9, 8), "switches to table 9; only 1 to 8 exist"),
         (
-            CodeFault::SwitchTo {
-                table: 0,
-                tables: 2,
-            },
-            "switches to table 0; only 1 and 2 exist",
-        ),
-        (
-            CodeFault::SwitchTo {
-                table: 9,
-                tables: 8,
-            },
-            "switches to table 9; only 1 to 8 exist",
-        ),
-        (
-            CodeFault::ShortCode {
-                code_bits: 1,
-                prefix_bits: 2,
-            },
-            "the code has 1 bit, fewer than its prefix, 2",
-        ),
-        (
-            CodeFault::Prefixes {
-                own: "11111".to_string(),
-                place: 2,
-                other: "11111".to_string(),
-            },
+            prefixes("11111", "11111"),
             "prefix 11111 is that of structure 2, too",
         ),
-    ];
-    for (fault, words) in cases {
+        (
+            prefixes("1", "10"),
+            "prefix 1 begins that of structure 2, 10",
+        ),
+    ] {
         let expected = format!("table 1, structure 3: {words}");
         assert_eq!(told(2, part, fault), expected);
     }
@@ -224,7 +208,11 @@ fn numbers_are_told_with_their_bounds() {
     ] {
         assert_eq!(told, words);
     }
-    let zone = LeadFault::ZoneOfType {
+}
+
+#[test]
+fn zones_and_short_data_are_told_in_plain_words() {
+    let zone = ZoneFault::OfType {
         qrs_type: 256,
         start: 101,
         end: 300,
