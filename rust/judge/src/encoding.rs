@@ -210,6 +210,7 @@ mod tests {
     use super::{encode_lead, first_unreached, shortest, stream};
     use crate::make::Rng;
     use crate::refused::Refused;
+    use crate::row;
     use crate::stream::Values;
     use crate::tables::{Meaning, Structure, Tables};
     use crate::vectors::{examples, section_2, tables_named};
@@ -246,7 +247,7 @@ mod tests {
             assert_eq!(
                 refused,
                 Err(Refused {
-                    number: 15,
+                    number: row::NO_STREAM,
                     work_cleared
                 })
             );
@@ -281,23 +282,26 @@ mod tests {
     fn refusals_in_their_order() {
         let default = [0x1F, 0x4E];
         let example = section_2("example");
-        refuses(17, false, (&[], 0, 0, 0, 0));
-        refuses(17, false, (&[1], 65_537, 0, 0, 0));
-        refuses(17, false, (&[1], 1, 3, 0, 0));
-        refuses(7, false, (&[1], 1, 2, 0, 0));
-        refuses(7, false, (&[0x1F, 0x4E, 0], 1, 2, 0, 0));
-        refuses(11, false, (&default, 5, 0, 4, 100));
-        refuses(11, false, (&example, 5, 0, 9, 100));
-        refuses(11, true, (&example, 5, 0, 10, 1));
-        refuses(16, false, (&[], 32_768, 0, 0, 0));
-        refuses(11, false, (&[], 32_767, 0, 0, 65_533));
+        refuses(row::WRITER_BOUNDS, false, (&[], 0, 0, 0, 0));
+        refuses(row::WRITER_BOUNDS, false, (&[1], 65_537, 0, 0, 0));
+        refuses(row::WRITER_BOUNDS, false, (&[1], 1, 3, 0, 0));
+        refuses(row::SECTION_2, false, (&[1], 1, 2, 0, 0));
+        refuses(row::SECTION_2, false, (&[0x1F, 0x4E, 0], 1, 2, 0, 0));
+        refuses(row::ROOM, false, (&default, 5, 0, 4, 100));
+        refuses(row::ROOM, false, (&example, 5, 0, 9, 100));
+        refuses(row::ROOM, true, (&example, 5, 0, 10, 1));
+        refuses(row::TOO_LONG, false, (&[], 32_768, 0, 0, 0));
+        refuses(row::ROOM, false, (&[], 32_767, 0, 0, 65_533));
     }
 
     #[test]
     fn length_bound() {
         let wide = |count: usize| encode_lead(&[0x1F, 0x4E], &vec![200; count], 0, count, 70_000);
         assert_eq!(wide(20_164).map(|coded| coded.bytes.len()), Ok(65_533));
-        assert_eq!(wide(20_165).map_err(|refused| refused.number), Err(16));
+        assert_eq!(
+            wide(20_165).map_err(|refused| refused.number),
+            Err(row::TOO_LONG)
+        );
     }
 
     /// Up to three tables of few and short codes; at times some bits match nothing.

@@ -103,7 +103,7 @@ fn they_open_and_show_their_identifier() {
         assert_eq!(pointers.len(), 12);
         let place = field(&record.bytes, 2, 1).expect(&record.name);
         assert_eq!(record.bytes[place], record.identifier, "{}", record.name);
-        assert_eq!(field(&record.bytes, 2, 2), Err(10));
+        assert_eq!(field(&record.bytes, 2, 2), Err(row::ABSENT));
     }
 }
 
@@ -124,15 +124,15 @@ fn their_leads_read() {
             assert_eq!((entry.last - entry.first + 1) as usize, count);
         }
         let beyond = record.leads.len() + 1;
-        assert_eq!(lead(&record.bytes, beyond), Err(10));
-        assert_eq!(lead(&record.bytes, 0), Err(10));
+        assert_eq!(lead(&record.bytes, beyond), Err(row::ABSENT));
+        assert_eq!(lead(&record.bytes, 0), Err(row::ABSENT));
     }
 }
 
 #[test]
 fn too_little_room_is_11_and_leaves_work_space_untouched() {
     let refused = Err(Refused {
-        number: 11,
+        number: row::ROOM,
         work_cleared: false,
     });
     for record in known() {
