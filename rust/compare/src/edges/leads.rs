@@ -2,7 +2,7 @@
 
 use judge::row;
 
-use super::{headed, two_leads, Edges};
+use super::edge::{headed, two_leads, Edges};
 use crate::rhythm::{two_bytes, zone, Beat, Qrs, Rhythm, Span, Stored};
 
 /// What breaks the rules of Sections 3 to 6.

@@ -3,7 +3,7 @@
 use judge::make::{mend, mend_size};
 use judge::row;
 
-use super::Edges;
+use super::edge::Edges;
 use crate::draft::{pointer_to, seal, section, with_header, Draft, HEADER, SECTION_0};
 use crate::largest::{largest, Filling};
 

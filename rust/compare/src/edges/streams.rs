@@ -2,7 +2,7 @@
 
 use judge::row;
 
-use super::{two_leads, Edges};
+use super::edge::{two_leads, Edges};
 use crate::rhythm::{
     bits, remainder, switch, tables, two_bytes, value, zone, Beat, Rhythm, Stored, DEFAULT_TABLE,
 };

@@ -2,7 +2,7 @@
 
 use judge::row;
 
-use super::{headed, two_leads, Edges};
+use super::edge::{headed, two_leads, Edges};
 use crate::rhythm::{bits, remainder, switch, tables, value, Code, DEFAULT_TABLE};
 
 /// What breaks the rules of Section 2.
