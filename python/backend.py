@@ -1,7 +1,7 @@
 """Makes the wheel of tigmavresh, for pip (PEP 517): `pip install ./python` calls build_wheel.
 
 A wheel is a zip of the module and of some notes on it, so this needs no other package and no network. Three files of the
-module are made here: libscp.so of the proved archive; _rules.py, the words of the refusals, of those that the Rust code has;
+module are made here: libscp.so of the proved archive; _rules.py, the refusals' numbers, names and words, from the Rust code's table;
 and _version.py, of the tool's version.
 
 `python3 python/backend.py FOLDER` writes the wheel without pip.
@@ -52,6 +52,22 @@ Tag: {TAG}
 """
 
 
+RULES_MODULE = '''\
+"""The rules that a refusal can be of, and what each asks."""
+
+from enum import IntEnum
+
+
+class Rule(IntEnum):
+    """The rules, each with its number: `Refused.number` is one of these."""
+
+{members}
+
+RULES = {{
+{words}}}
+'''
+
+
 def build_wheel(
     wheel_directory: str, config_settings: Optional[dict[str, Any]] = None, metadata_directory: Optional[str] = None
 ) -> str:
@@ -87,12 +103,13 @@ def library() -> bytes:
 
 
 def rules() -> str:
-    """The module of the refusals' words, taken from where they stand."""
-    rows = re.findall(r'^ *(\d+) => "(.*)",$', RULES.read_text(), re.MULTILINE)
-    if [int(row) for row, _ in rows] != list(range(1, 18)):
-        raise SystemExit(f"{RULES}: the words of refusals 1 to 17 are not found there, one a line")
-    lines = "".join(f"    {row}: {words!r},\n" for row, words in rows)
-    return f'"""What the rules of the refusals ask, in a few words."""\n\nRULES = {{\n{lines}}}\n'
+    """The module of the refusals' numbers, names and words, taken from the table of the Rust code."""
+    rows = re.findall(r'^ +([A-Z0-9_]+) = (\d+) \{$[^}]*?^ +rule: "(.*)",$', RULES.read_text(), re.MULTILINE)
+    if not rows:
+        raise SystemExit(f"{RULES}: the table of refusals is not found there")
+    members = "".join(f"    {name} = {number}\n" for name, number, _ in rows)
+    words = "".join(f"    Rule.{name}: {rule!r},\n" for name, _, rule in rows)
+    return RULES_MODULE.format(members=members, words=words)
 
 
 def listed(files: dict[str, bytes]) -> str:

@@ -10,6 +10,7 @@ from array import array
 
 import tigmavresh
 from common import ACCEPTED, SAMPLES, WITH_LEADS, Case, changed, sample, tool, without
+from tigmavresh import Rule
 
 try:
     import numpy
@@ -58,7 +59,7 @@ class Fields(Case):
 
     def test_fields_that_are_not_there(self):
         for tag, occurrence in [(2, 2), (2, 0), (99, 1), (255, 1), (2, 2**64 - 1)]:
-            self.refused(10, self.record.field, tag, occurrence)
+            self.refused(Rule.ABSENT, self.record.field, tag, occurrence)
 
     def test_fields_that_repeat(self):
         fields = [(30, b"one"), *self.FIELDS[:4], (30, b""), (30, b"three")]
@@ -67,7 +68,7 @@ class Fields(Case):
         self.assertEqual(record.fields(30), [b"one", b"", b"three"])
         self.assertEqual(record.field(30, 3), b"three")
         self.assertEqual(record.field(30, occurrence=2), b"")
-        self.refused(10, record.field, 30, 4)
+        self.refused(Rule.ABSENT, record.field, 30, 4)
 
     def test_identifiers(self):
         other = tigmavresh.open(sample("7")).field(2)
@@ -121,32 +122,32 @@ class Leads(Case):
     def test_places_without_a_lead(self):
         record = tigmavresh.open(sample("two-leads"))
         for place in [0, 3, 33, 2**64 - 1]:
-            self.refused(10, record.lead, place)
-            self.refused(10, record.entry, place)
+            self.refused(Rule.ABSENT, record.lead, place)
+            self.refused(Rule.ABSENT, record.entry, place)
 
     def test_a_record_without_leads(self):
         for name in ["007", "7", "makers-sections"]:
             record = tigmavresh.open(sample(name))
             self.assertEqual((record.pointers[3].length, record.pointers[6].length), (0, 0), name)
             self.assertEqual(record.leads(), [])
-            self.refused(10, record.lead, 1)
-            self.refused(10, record.entry, 1)
+            self.refused(Rule.ABSENT, record.lead, 1)
+            self.refused(Rule.ABSENT, record.entry, 1)
 
     def test_leads_without_their_samples(self):
         record = tigmavresh.open(sample("refused-10"))
         self.assertGreater(record.pointers[3].length, 0)
         self.assertEqual(record.pointers[6].length, 0)
-        self.refused(10, record.leads)
+        self.refused(Rule.ABSENT, record.leads)
 
     def test_samples_without_their_leads(self):
-        self.refused(8, tigmavresh.open(without(sample("two-leads"), 3)).leads)
+        self.refused(Rule.SECTIONS_3_TO_6, tigmavresh.open(without(sample("two-leads"), 3)).leads)
 
     def test_no_leads_and_a_fault(self):
         given = {"step": 1, "interval": 1, "order": 0, "section2": tigmavresh.DEFAULT_TABLE}
         data = tigmavresh.write(Fields.FIELDS, [tigmavresh.NewLead(1, [0])], **given)
         bare = without(without(data, 6), 3)
         self.assertEqual(tigmavresh.open(bare).leads(), [])
-        self.refused(7, tigmavresh.open(changed(bare, 2, 0, b"\0\0")).leads)
+        self.refused(Rule.SECTION_2, tigmavresh.open(changed(bare, 2, 0, b"\0\0")).leads)
 
     def test_samples_are_the_callers_own(self):
         record = tigmavresh.open(sample("two-leads"))

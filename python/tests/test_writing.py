@@ -9,7 +9,7 @@ from pathlib import Path
 
 import tigmavresh
 from common import SAMPLES, WITH_LEADS, Case, sample, section_data, tool
-from tigmavresh import DEFAULT_TABLE, NewLead, encode, write
+from tigmavresh import DEFAULT_TABLE, NewLead, Rule, encode, write
 
 FIELDS = [(2, b"007\0"), (14, b""), (25, b"\xe8\x07\x03\x0e"), (26, b"\x09\x1a\x35")]
 
@@ -40,13 +40,13 @@ class Encoding(Case):
         self.assertEqual(encode([15, 15], 0, tables).bits, 22)
 
     def test_what_is_refused(self):
-        self.refused(17, encode, [], 0)
-        self.refused(17, encode, [1], 3)
-        self.refused(17, encode, [0] * 65_537, 0, DEFAULT_TABLE)
-        self.refused(7, encode, [1], 0, b"\0")
-        self.refused(15, encode, [-32768, 32767, -32768], 2, DEFAULT_TABLE)
-        self.refused(15, encode, [-32768, 32767], 1)
-        self.refused(16, encode, [0] * 32_768, 0)
+        self.refused(Rule.WRITER_BOUNDS, encode, [], 0)
+        self.refused(Rule.WRITER_BOUNDS, encode, [1], 3)
+        self.refused(Rule.WRITER_BOUNDS, encode, [0] * 65_537, 0, DEFAULT_TABLE)
+        self.refused(Rule.SECTION_2, encode, [1], 0, b"\0")
+        self.refused(Rule.NO_STREAM, encode, [-32768, 32767, -32768], 2, DEFAULT_TABLE)
+        self.refused(Rule.NO_STREAM, encode, [-32768, 32767], 1)
+        self.refused(Rule.TOO_LONG, encode, [0] * 32_768, 0)
         self.assertEqual(len(encode([0] * 32_767, 0).stream), 65_534)
 
 
@@ -90,18 +90,18 @@ class Writing(Case):
             self.assertEqual(data, out.read_bytes())
 
     def test_what_is_refused(self):
-        self.refused(17, written, [])
-        self.refused(17, written, [NewLead(1, [0])] * 33)
-        self.refused(17, written, [NewLead(1, [])])
-        self.refused(17, written, [NewLead(1, [0], first=0)])
-        self.refused(17, written, [NewLead(1, [0, 0], first=2**32 - 1)])
+        self.refused(Rule.WRITER_BOUNDS, written, [])
+        self.refused(Rule.WRITER_BOUNDS, written, [NewLead(1, [0])] * 33)
+        self.refused(Rule.WRITER_BOUNDS, written, [NewLead(1, [])])
+        self.refused(Rule.WRITER_BOUNDS, written, [NewLead(1, [0], first=0)])
+        self.refused(Rule.WRITER_BOUNDS, written, [NewLead(1, [0, 0], first=2**32 - 1)])
         for named in [{"step": 0}, {"interval": 0}, {"order": 3}]:
-            self.refused(17, written, **named)
-        self.refused(6, written, fields=FIELDS[1:])
-        self.refused(6, written, fields=[*FIELDS, (255, b"")])
-        self.refused(7, written, section2=b"\1\0\0\0")
-        self.refused(15, written, [NewLead(1, [0]), NewLead(2, [-32768, 32767])])
-        self.refused(16, written, [NewLead(1, [0] * 32_767)] * 20)
+            self.refused(Rule.WRITER_BOUNDS, written, **named)
+        self.refused(Rule.SECTION_1, written, fields=FIELDS[1:])
+        self.refused(Rule.SECTION_1, written, fields=[*FIELDS, (255, b"")])
+        self.refused(Rule.SECTION_2, written, section2=b"\1\0\0\0")
+        self.refused(Rule.NO_STREAM, written, [NewLead(1, [0]), NewLead(2, [-32768, 32767])])
+        self.refused(Rule.TOO_LONG, written, [NewLead(1, [0] * 32_767)] * 20)
         self.assertEqual(len(tigmavresh.open(written([NewLead(1, [0])] * 32)).leads()), 32)
 
     def test_what_cannot_be_asked(self):

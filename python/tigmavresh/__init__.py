@@ -17,6 +17,7 @@ Bytes that are lent are never changed. What is not `bytes` (a `bytearray`, a `me
 record is what it was when it was opened. Calls may be made from any number of threads, and run side by side.
 """
 
+from ._rules import Rule
 from ._version import __version__
 from .reading import Entry, Field, Lead, Pointer, Record, breaks, crc, open, same_identifier
 from .refusal import Refused
@@ -32,6 +33,7 @@ __all__ = [
     "Pointer",
     "Record",
     "Refused",
+    "Rule",
     "__version__",
     "breaks",
     "crc",

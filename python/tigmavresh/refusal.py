@@ -2,13 +2,13 @@
 
 from __future__ import annotations
 
-from ._rules import RULES
+from ._rules import RULES, Rule
 
 
 class Refused(Exception):
     """The library refused. It has shown nothing and changed nothing.
 
-    number: The number of the rule that is broken, 1 to 17: the first that applies, in the order of the call.
+    number: The number of the rule that is broken, as `Rule` has them: the first that applies, in the order of the call.
     """
 
     def __init__(self, number: int) -> None:
@@ -18,7 +18,7 @@ class Refused(Exception):
     @property
     def rule(self) -> str:
         """What the rule asks, in a few words."""
-        return RULES[self.number]
+        return RULES[Rule(self.number)]
 
     def __str__(self) -> str:
         return f"refused, number {self.number}; rule broken: {self.rule}"

@@ -9,33 +9,12 @@
  *   - Lent bytes are a pointer and a length. A call reads and writes nothing outside them. A part that a call writes to must
  *     not overlap any other part lent to the same call.
  *   - Any bytes and any numbers may be given, and every call ends.
- *   - `refusal` is 0 (accepted) or the number of the rule that is broken, the smallest if there are several (below);
+ *   - `refusal` is 0 (accepted) or the number of the rule that is broken (SCP_REFUSED_...), the smallest if there are several;
  *     where a call says an order of its own, the first in that order.
  *   - With a refusal every other field of the answer is 0 and no lent byte is changed, but for work space (scp_read_lead,
  *     scp_encode_lead, scp_write_record).
  *   - Places of bytes (`start`, `next`, `at`) count from 0; an occurrence and a lead's place count from 1.
  *     A pointer's index is as the record stores it: it counts the record's bytes from 1.
- *
- * The refusals of the calls below:
- *    1  the length is outside 142 to 1,048,576 bytes, or is not what the size field says
- *    2  the record's check differs
- *    3  Section 0 breaks its rules
- *    4  a section's place, length or header breaks its rules, or Section 1 is absent
- *    5  a section's check differs
- *    6  Section 1's data break their rules
- *    7  Section 2 breaks its rules or bounds
- *    8  Sections 3 to 6 break their rules or bounds, or one that is needed is absent
- *    9  there is bimodal compression, or Sections 5 and 6 differ in step or interval
- *   10  there is no such field, no lead at that place, or no Section 3 or 6
- *   11  the output or the work space is too short
- *   12  a value's code matches nothing, or the stream ends in it
- *   13  a sample does not fit 16 bits
- *   14  8 or more bits are left after the last sample
- *   15  no stream reads to these samples
- *   16  the shortest stream has more than 65,535 bytes, or the record more than 1,048,576
- *   17  0 or more than 65,536 samples are to be coded, or the order is over 2; for a record also: 0 or more than 32 leads, a
- *       step or interval of 0, a first sample number of 0 or a last one past 32 bits, samples lent that differ in number from
- *       the counts of the leads together, or lists of leads of unequal length
  */
 #ifndef SCP_H
 #define SCP_H
@@ -46,6 +25,30 @@
 #ifdef __cplusplus
 extern "C" {
 #endif
+
+/* The refusals. */
+enum {
+    SCP_REFUSED_LENGTH = 1,                 /* the length is outside 142 to 1,048,576 bytes, or is not what the size field says */
+    SCP_REFUSED_RECORD_CHECK = 2,           /* the record's CRC differs */
+    SCP_REFUSED_SECTION_0 = 3,              /* Section 0 breaks its rules */
+    SCP_REFUSED_PLACES = 4,                 /* a section's place, length or header breaks its rules, or Section 1 is absent */
+    SCP_REFUSED_SECTION_CHECK = 5,          /* a section's CRC differs */
+    SCP_REFUSED_SECTION_1 = 6,              /* Section 1's data break their rules */
+    SCP_REFUSED_SECTION_2 = 7,              /* Section 2 breaks its rules or bounds */
+    SCP_REFUSED_SECTIONS_3_TO_6 = 8,        /* Sections 3 to 6 break their rules or bounds, or one that is needed is absent */
+    SCP_REFUSED_BIMODAL_STEP_INTERVAL = 9,  /* there is bimodal compression, or Sections 5 and 6 differ in step or interval */
+    SCP_REFUSED_ABSENT = 10,                /* there is no such field, no lead at that place, or no Section 3 or 6 */
+    SCP_REFUSED_ROOM = 11,                  /* the output or the work space is too short */
+    SCP_REFUSED_CODE = 12,                  /* a value's code matches nothing, or the stream ends in it */
+    SCP_REFUSED_SAMPLE = 13,                /* a sample does not fit 16 bits */
+    SCP_REFUSED_LEFT_OVER_BITS = 14,        /* 8 or more bits are left after the last sample */
+    SCP_REFUSED_NO_STREAM = 15,             /* these samples cannot be encoded with these tables */
+    SCP_REFUSED_TOO_LONG = 16,              /* the shortest stream has more than 65,535 bytes, or the record more than 1,048,576 */
+    /* 0 or more than 65,536 samples are to be coded, or the order is over 2; for a record also: 0 or more than 32 leads, a
+     * step or interval of 0, a first sample number of 0 or a last one past 32 bits, samples lent that differ in number from
+     * the counts of the leads together, or lists of leads of unequal length */
+    SCP_REFUSED_WRITER_BOUNDS = 17
+};
 
 /* The most pointers that a record has, and the room in numbers that scp_open asks for. */
 #define SCP_POINTERS_MAX 64

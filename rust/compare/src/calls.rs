@@ -1,17 +1,14 @@
 //! Each call of the library on an input, held against the judge's.
 
-use std::fmt::Debug;
 use std::ops::Range;
 
 use judge::make::Rng;
 use scp::{raw, Refusal};
 
+use crate::answers::{hold, number, same, Difference};
 use crate::leads;
 use crate::lent::{Lent, Room};
 use crate::tally::{Call, Tally};
-
-/// What differs: the call, and both answers.
-pub type Difference = String;
 
 /// Steps of the walk that are taken at places of any kind.
 const STEPS: usize = 12;
@@ -235,31 +232,4 @@ fn part(judged: &Result<Range<usize>, u8>) -> raw::ScpPart {
         start: range.start,
         length: range.len(),
     }
-}
-
-/// 0, or the refusal.
-pub(crate) fn number<T>(answer: &Result<T, u8>) -> u8 {
-    answer.as_ref().err().copied().unwrap_or(0)
-}
-
-/// Asks that the library's answer is the judge's.
-pub(crate) fn same<T: PartialEq + Debug>(
-    call: &str,
-    library: T,
-    judge: T,
-) -> Result<(), Difference> {
-    if library == judge {
-        return Ok(());
-    }
-    Err(format!(
-        "{call}: the library answers {library:?}, the judge {judge:?}"
-    ))
-}
-
-/// Asks that something holds.
-pub(crate) fn hold(holds: bool, words: &str) -> Result<(), Difference> {
-    if holds {
-        return Ok(());
-    }
-    Err(words.to_string())
 }

@@ -4,7 +4,7 @@
 use judge::make::{mend, mend_size};
 
 use crate::draft::Draft;
-use crate::inputs::{largest, plain_fields, Filling};
+use crate::largest::{largest, plain_fields, Filling};
 use crate::rhythm::{
     bits, remainder, switch, tables, two_bytes, value, zone, Beat, Code, Rhythm, Span, Stored,
     DEFAULT_TABLE,

@@ -5,7 +5,7 @@ use std::fmt::Debug;
 
 use judge::make::Rng;
 
-use crate::calls::{hold, Difference};
+use crate::answers::{hold, Difference};
 use crate::lent::{Element, Space};
 
 /// Room that is always enough.

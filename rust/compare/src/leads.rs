@@ -3,10 +3,10 @@
 use std::ops::RangeInclusive;
 
 use judge::make::Rng;
-use judge::Refused;
+use judge::{row, Refused};
 use scp::raw;
 
-use crate::calls::{hold, number, same, Difference};
+use crate::answers::{hold, number, same, Difference};
 use crate::draft;
 use crate::guarded::{self, Right};
 use crate::tally::{Call, Tally};
@@ -56,7 +56,7 @@ fn places(record: &[u8], first: Result<judge::Entry, u8>, rng: &mut Rng) -> Vec<
 /// Each row's rule, asked alone. It means its row as long as no smaller one is broken.
 fn breaks(record: &[u8], tally: &mut Tally) -> Result<(), Difference> {
     let mut broken = false;
-    for row in 1..=9 {
+    for row in row::LENGTH..=row::AGREEMENT {
         let answer = ask(record, row);
         if broken {
             hold(answer <= 1, "scp_breaks: neither 0 nor 1")?;

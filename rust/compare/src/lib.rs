@@ -5,6 +5,8 @@
 //! it ([`calls`], [`encoding`], [`writing`]); and every answer is counted ([`tally`], [`writing::counts`]). On tiny leads the
 //! encoder is held against all streams that there are ([`encoding::brute`]); what is written is read back.
 
+mod answers;
+mod beaten;
 pub mod calls;
 mod draft;
 pub mod edges;
@@ -12,6 +14,7 @@ pub mod encoding;
 pub mod extremes;
 mod guarded;
 pub mod inputs;
+pub mod largest;
 mod leads;
 mod lent;
 pub mod rhythm;

@@ -6,10 +6,11 @@ use std::thread;
 
 use compare::encoding::{self, Job};
 use compare::extremes;
-use compare::inputs::{self, Filling, Kind};
+use compare::inputs::{self, Kind};
+use compare::largest::{largest, Filling};
 use compare::writing::{self, counts::Counts, edges};
 use judge::make::{self, Rng, ToWrite};
-use judge::Refused;
+use judge::{row, Refused};
 use scp::{Pointer, Refusal};
 
 const STACK: usize = 64 * 1024;
@@ -71,7 +72,7 @@ fn on_a_small_stack(records: Vec<Vec<u8>>) -> Vec<Answers> {
 #[test]
 fn the_largest_records_fit_a_small_stack() {
     let records: Vec<_> = [Filling::EmptyFields, Filling::LongFields]
-        .map(inputs::largest)
+        .map(largest)
         .into();
     let answers = on_a_small_stack(records.clone());
     for (answers, record) in answers.iter().zip(&records) {
@@ -107,7 +108,7 @@ const PLACES: [usize; 3] = [1, 32, 33];
 fn library_leads(record: &[u8], rooms: &mut [Vec<i16>; 2]) -> Leads {
     let [out, work] = rooms;
     Leads {
-        broken: (1..=9).find(|&row| scp::breaks(record, row)),
+        broken: (row::LENGTH..=row::AGREEMENT).find(|&row| scp::breaks(record, row)),
         entry: scp::lead(record, 1)
             .map(|entry| (entry.id, entry.first, entry.last, entry.bytes as u32))
             .map_err(Refusal::number),
@@ -121,7 +122,7 @@ fn library_leads(record: &[u8], rooms: &mut [Vec<i16>; 2]) -> Leads {
 fn judge_leads(record: &[u8]) -> Leads {
     let room = scp::SAMPLES_MAX;
     Leads {
-        broken: (1..=9).find(|&row| judge::breaks(record, row)),
+        broken: (row::LENGTH..=row::AGREEMENT).find(|&row| judge::breaks(record, row)),
         entry: judge::lead(record, 1).map(|entry| (entry.id, entry.first, entry.last, entry.bytes)),
         samples: PLACES.map(|place| {
             let read = judge::read_lead(record, place, room, room);
@@ -178,7 +179,7 @@ fn encoded_on_a_small_stack(jobs: &[Job], names: &[&str]) {
         let mut expected = vec![(room, judged.clone())];
         if let Ok(coded) = &judged {
             let short = Refused {
-                number: 11,
+                number: row::ROOM,
                 work_cleared: coded.work_cleared,
             };
             expected.push((coded.bytes.len(), judged.clone()));
@@ -228,7 +229,7 @@ fn written_on_a_small_stack(job: &ToWrite, name: &str) -> Result<Vec<u8>, Refuse
     let mut expected = vec![(work, out, judged.clone())];
     if judged.is_ok() {
         let short = Refused {
-            number: 11,
+            number: row::ROOM,
             work_cleared: has_tables,
         };
         expected.push((work, out - 1, Err(short)));

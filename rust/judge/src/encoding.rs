@@ -3,7 +3,11 @@
 
 use crate::bounds;
 use crate::differences::differences;
-use crate::rows::Refused;
+use crate::finding::Finding;
+use crate::judging::number;
+use crate::numbers::Bytes;
+use crate::refused::Refused;
+use crate::row;
 use crate::stream::Put;
 use crate::tables::{tables, Meaning, Structure, Tables};
 
@@ -27,11 +31,11 @@ pub fn encode_lead(
     out_len: usize,
 ) -> Result<Coded, Refused> {
     if !bounds::SAMPLES.contains(&samples.len()) || !bounds::ORDERS.contains(&order) {
-        return Err(Refused::untouched(17));
+        return Err(Refused::untouched(row::WRITER_BOUNDS));
     }
-    let tables = tables_to_write(section2).map_err(Refused::untouched)?;
+    let tables = tables_to_write(section2).map_err(|found| Refused::untouched(number(&found)))?;
     if work_len < work_needed(&tables, samples.len()) {
-        return Err(Refused::untouched(11));
+        return Err(Refused::untouched(row::ROOM));
     }
     let work_cleared = tables.is_some();
     let coded = encoded(&tables, samples, order, out_len);
@@ -52,24 +56,24 @@ fn encoded(
     order: u8,
     out_len: usize,
 ) -> Result<(Vec<u8>, u32), u8> {
-    let stream = stream(tables.as_ref(), samples, order).ok_or(15)?;
+    let stream = stream(tables.as_ref(), samples, order).ok_or(row::NO_STREAM)?;
     let bits = stream.bits() as u32;
     let bytes = stream.bytes();
     if bytes.len() > bounds::STREAM {
-        return Err(16);
+        return Err(row::TOO_LONG);
     }
     if bytes.len() > out_len {
-        return Err(11);
+        return Err(row::ROOM);
     }
     Ok((bytes, bits))
 }
 
 /// The tables of a Section 2 to be written, without a spare byte; none of empty data. Refused with
 /// 7.
-pub fn tables_to_write(section2: &[u8]) -> Result<Option<Tables>, u8> {
+pub fn tables_to_write(section2: &[u8]) -> Result<Option<Tables>, Vec<Finding>> {
     match section2 {
         [] => Ok(None),
-        data => tables(data, 0).map(Some).ok_or(7),
+        data => tables(Bytes::new(data), 0).map(Some),
     }
 }
 
@@ -84,6 +88,42 @@ pub fn stream(tables: Option<&Tables>, samples: &[i16], order: u8) -> Option<Put
     match tables {
         Some(tables) => shortest(tables, &values),
         None => two_bytes_each(&values),
+    }
+}
+
+/// The place, from 0, of the first of these values that no codes reach from table 1 on, by the
+/// values before it; `None` if all are reached.
+pub fn first_unreached(tables: Option<&Tables>, values: &[i32]) -> Option<usize> {
+    let Some(tables) = tables else {
+        return values
+            .iter()
+            .position(|&value| i16::try_from(value).is_err());
+    };
+    let mut current = vec![false; tables.len()];
+    current[0] = true;
+    values.iter().position(|&value| {
+        switch_on(tables, &mut current);
+        let gives = |table: &Vec<Structure>| table.iter().any(|code| code.gives(value));
+        for (is_current, table) in current.iter_mut().zip(tables) {
+            *is_current &= gives(table);
+        }
+        !current.contains(&true)
+    })
+}
+
+/// Adds the tables that switches lead to.
+fn switch_on(tables: &Tables, current: &mut [bool]) {
+    let mut open: Vec<usize> = (0..tables.len()).filter(|&at| current[at]).collect();
+    while let Some(at) = open.pop() {
+        for code in &tables[at] {
+            match code.meaning {
+                Meaning::Switch(to) if !current[to - 1] => {
+                    current[to - 1] = true;
+                    open.push(to - 1);
+                }
+                _ => {}
+            }
+        }
     }
 }
 
@@ -167,9 +207,10 @@ fn rest(code: &Structure, value: i32, table: usize, before: &Least, after: &Leas
 
 #[cfg(test)]
 mod tests {
-    use super::{encode_lead, shortest, stream};
+    use super::{encode_lead, first_unreached, shortest, stream};
     use crate::make::Rng;
-    use crate::rows::Refused;
+    use crate::refused::Refused;
+    use crate::row;
     use crate::stream::Values;
     use crate::tables::{Meaning, Structure, Tables};
     use crate::vectors::{examples, section_2, tables_named};
@@ -206,7 +247,7 @@ mod tests {
             assert_eq!(
                 refused,
                 Err(Refused {
-                    number: 15,
+                    number: row::NO_STREAM,
                     work_cleared
                 })
             );
@@ -241,23 +282,26 @@ mod tests {
     fn refusals_in_their_order() {
         let default = [0x1F, 0x4E];
         let example = section_2("example");
-        refuses(17, false, (&[], 0, 0, 0, 0));
-        refuses(17, false, (&[1], 65_537, 0, 0, 0));
-        refuses(17, false, (&[1], 1, 3, 0, 0));
-        refuses(7, false, (&[1], 1, 2, 0, 0));
-        refuses(7, false, (&[0x1F, 0x4E, 0], 1, 2, 0, 0));
-        refuses(11, false, (&default, 5, 0, 4, 100));
-        refuses(11, false, (&example, 5, 0, 9, 100));
-        refuses(11, true, (&example, 5, 0, 10, 1));
-        refuses(16, false, (&[], 32_768, 0, 0, 0));
-        refuses(11, false, (&[], 32_767, 0, 0, 65_533));
+        refuses(row::WRITER_BOUNDS, false, (&[], 0, 0, 0, 0));
+        refuses(row::WRITER_BOUNDS, false, (&[1], 65_537, 0, 0, 0));
+        refuses(row::WRITER_BOUNDS, false, (&[1], 1, 3, 0, 0));
+        refuses(row::SECTION_2, false, (&[1], 1, 2, 0, 0));
+        refuses(row::SECTION_2, false, (&[0x1F, 0x4E, 0], 1, 2, 0, 0));
+        refuses(row::ROOM, false, (&default, 5, 0, 4, 100));
+        refuses(row::ROOM, false, (&example, 5, 0, 9, 100));
+        refuses(row::ROOM, true, (&example, 5, 0, 10, 1));
+        refuses(row::TOO_LONG, false, (&[], 32_768, 0, 0, 0));
+        refuses(row::ROOM, false, (&[], 32_767, 0, 0, 65_533));
     }
 
     #[test]
     fn length_bound() {
         let wide = |count: usize| encode_lead(&[0x1F, 0x4E], &vec![200; count], 0, count, 70_000);
         assert_eq!(wide(20_164).map(|coded| coded.bytes.len()), Ok(65_533));
-        assert_eq!(wide(20_165).map_err(|refused| refused.number), Err(16));
+        assert_eq!(
+            wide(20_165).map_err(|refused| refused.number),
+            Err(row::TOO_LONG)
+        );
     }
 
     /// Up to three tables of few and short codes; at times some bits match nothing.
@@ -301,7 +345,7 @@ mod tests {
             for number in 0..1u32 << bits {
                 let bytes = (u64::from(number) << (32 - bits)).to_be_bytes()[4..].to_vec();
                 let mut read = Values::new(&bytes, Some(tables));
-                let same = values.iter().all(|&value| read.next() == Some(value));
+                let same = values.iter().all(|&value| read.next() == Ok(value));
                 if same && read.bits_left() == 32 - bits {
                     return Some((bits, bytes[..bits.div_ceil(8)].to_vec()));
                 }
@@ -321,6 +365,10 @@ mod tests {
                 .map(|_| rng.below(4) as i32 - 1)
                 .collect();
             let put = shortest(&tables, &values);
+            assert_eq!(
+                first_unreached(Some(&tables), &values).is_none(),
+                put.is_some()
+            );
             match found(&tables, &values, MOST) {
                 Some((bits, bytes)) => {
                     let put = put.expect("a stream was found");
@@ -349,7 +397,7 @@ mod tests {
                 let bytes = put.bytes();
                 let read =
                     crate::reading::read_stream(&bytes, tables.as_ref(), order, samples.len());
-                assert_eq!(read, Ok(samples.clone()));
+                assert_eq!(read.ok(), Some(samples.clone()));
             }
         }
     }

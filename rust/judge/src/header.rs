@@ -1,18 +1,24 @@
-//! Section 1: its fields, the walk over them and the patient identifier: rows 6 and 10
-//! (01, Header fields and the patient identifier).
+//! Section 1: its fields, the walk over them and the patient identifier: row 6 (01, Header fields
+//! and the patient identifier).
 
-use crate::numbers::{hold, Bytes};
-use crate::record::{data_of, place_of, HEADER};
-use crate::rows::smallest;
-use std::ops::Range;
+use crate::finding::{self, Fault, FieldFault, Finding, Findings, Needs, Part, What};
+use crate::numbers::Bytes;
+use crate::record::data_of;
+use crate::row;
+use std::ops::{Range, RangeInclusive};
 
 /// The tag of the end mark, which no field has.
 const END: u8 = 255;
+/// Bytes of a field's tag and length.
+const TAG_AND_LENGTH: usize = 3;
 /// Tags that stand exactly once.
-const ONCE: [u8; 4] = [IDENTIFIER, 14, DATE, TIME];
+const ONCE: [u8; 4] = [IDENTIFIER, DEVICE, DATE, TIME];
 const IDENTIFIER: u8 = 2;
+const DEVICE: u8 = 14;
 const DATE: u8 = 25;
 const TIME: u8 = 26;
+/// Section 1 may have so many bytes after its end mark.
+const SPARE: usize = 1;
 
 /// A step of the walk: a field's tag, where its bytes start, how many they are, and where the next
 /// step goes.
@@ -30,30 +36,11 @@ impl Step {
     }
 }
 
-/// The part of the record that holds the bytes of a field, or the smallest of 1 to 6 and 10 that
-/// applies. Occurrences count from 1.
-pub fn field(record: &[u8], tag: u8, occurrence: usize) -> Result<Range<usize>, u8> {
-    let section = walk_start(record)?;
-    let skipped = occurrence.checked_sub(1).ok_or(10)?;
-    let step = steps(&record[section.clone()], HEADER)
-        .filter(|step| step.tag == tag)
-        .nth(skipped)
-        .ok_or(10)?;
-    Ok(section.start + step.start..section.start + step.next)
-}
-
-/// The place of Section 1, header and all, in the record; the refusals are those of opening.
-pub fn walk_start(record: &[u8]) -> Result<Range<usize>, u8> {
-    smallest(record, 1..=6)?;
-    place_of(record, 1).ok_or(4)
-}
-
 /// The field at a place of the lent section; `None` for the end: tag 255, or bytes too few for a
 /// field.
 pub fn walk_step(section: &[u8], at: usize) -> Option<Step> {
     let mut bytes = Bytes::new(section.get(at..)?);
-    let tag = bytes.byte()?;
-    hold(tag != END)?;
+    let tag = bytes.byte().filter(|&tag| tag != END)?;
     let length = usize::from(bytes.two()?);
     bytes.take(length)?;
     let next = section.len() - bytes.left();
@@ -65,55 +52,105 @@ pub fn walk_step(section: &[u8], at: usize) -> Option<Step> {
     })
 }
 
+/// All steps of the walk from a place on.
+pub fn steps(section: &[u8], at: usize) -> impl Iterator<Item = Step> + '_ {
+    std::iter::successors(walk_step(section, at), |step| walk_step(section, step.next))
+}
+
 /// Identifiers are compared byte by byte, with nothing trimmed, folded or turned into a number.
 pub fn same_identifier(a: &[u8], b: &[u8]) -> bool {
     a == b
 }
 
 /// Row 6: Section 1's data; a single byte may follow the end mark.
-pub fn section_1_breaks(record: &[u8]) -> bool {
-    !data_of(record, 1).is_some_and(|data| fields_hold(data, 1))
+pub fn section_1(record: &[u8]) -> Vec<Finding> {
+    data_of(record, 1).map_or_else(Vec::new, |data| fields(data, SPARE))
 }
 
 /// Whether these data are fields by the rules, the end mark, and at most so many bytes after it.
-pub fn fields_hold(data: &[u8], most_after: usize) -> bool {
-    let fields: Vec<Step> = steps(data, 0).collect();
-    let end = fields.last().map_or(0, |field| field.next);
-    let ends = data[end..]
-        .strip_prefix(&[END, 0, 0])
-        .is_some_and(|after| after.len() <= most_after);
-    ends && ONCE.iter().all(|&tag| stands_once(data, &fields, tag))
-}
-
-/// Whether the tag stands exactly once, with bytes that its own rule allows.
-fn stands_once(data: &[u8], fields: &[Step], tag: u8) -> bool {
-    let mut places = fields.iter().filter(|field| field.tag == tag);
-    match (places.next(), places.next()) {
-        (Some(field), None) => bytes_hold(tag, &data[field.bytes()]),
-        _ => false,
+pub fn fields(data: Bytes, most_after: usize) -> Vec<Finding> {
+    let mut found = Findings::new(row::SECTION_1, Some(1));
+    let bytes = data.slice();
+    let met: Vec<Step> = steps(bytes, 0).collect();
+    for field in &met {
+        let offset = data.offset() + field.start - TAG_AND_LENGTH;
+        form(field.tag, &bytes[field.bytes()], offset, &mut found);
     }
-}
-
-fn bytes_hold(tag: u8, bytes: &[u8]) -> bool {
-    match tag {
-        IDENTIFIER => {
-            let nul = bytes.iter().position(|&byte| byte == 0);
-            (2..=64).contains(&bytes.len()) && nul == Some(bytes.len() - 1)
+    let end = met.last().map_or(0, |field| field.next);
+    // where the walk was stopped short, nobody knows which fields were to follow
+    if ending(&bytes[end..], data.offset() + end, most_after, &mut found) {
+        for tag in ONCE {
+            let times = met.iter().filter(|field| field.tag == tag).count();
+            let mut spot = found.of(Part::Field(tag));
+            spot.hold(times == 1, FieldFault::Times(times));
         }
-        DATE => bytes.len() == 4,
-        TIME => bytes.len() == 3,
-        _ => true,
+    }
+    found.list()
+}
+
+/// What stands after the last field, from this byte on: whether it starts with the end mark.
+fn ending(rest: &[u8], offset: usize, most_after: usize, found: &mut Findings) -> bool {
+    match *rest {
+        [END, 0, 0, ref after @ ..] => {
+            let (found_after, most) = (after.len(), most_after);
+            let mut spot = found.at(Part::Field(END), offset);
+            let fault = Fault::After {
+                found: found_after,
+                most,
+            };
+            spot.hold(found_after <= most, fault);
+            return true;
+        }
+        [tag, low, high, ref after @ ..] => {
+            let mut spot = found.at(Part::Field(tag), offset);
+            let length = u16::from_le_bytes([low, high]);
+            match tag {
+                END => {
+                    spot.number(What::FieldLength, length, 0..=0);
+                }
+                _ => spot.short(Needs::Field, length.into(), after.len()),
+            }
+        }
+        _ => {
+            let left = rest.len();
+            found
+                .at(Part::Whole, offset)
+                .push(FieldFault::NoEndMark { left });
+        }
+    }
+    false
+}
+
+/// How many bytes a field may have.
+fn lengths(tag: u8) -> RangeInclusive<usize> {
+    match tag {
+        IDENTIFIER => 2..=64,
+        DATE => 4..=4,
+        TIME => 3..=3,
+        _ => 0..=usize::from(u16::MAX),
     }
 }
 
-/// All steps of the walk from a place on.
-fn steps(section: &[u8], at: usize) -> impl Iterator<Item = Step> + '_ {
-    std::iter::successors(walk_step(section, at), |step| walk_step(section, step.next))
+/// The rules of a field's own bytes.
+fn form(tag: u8, bytes: &[u8], offset: usize, found: &mut Findings) {
+    let (length, mut spot) = (bytes.len(), found.at(Part::Field(tag), offset));
+    let expected = finding::bounds(&lengths(tag));
+    spot.number(What::FieldLength, length as i64, expected);
+    if tag == IDENTIFIER {
+        let nul = bytes.iter().position(|&byte| byte == 0);
+        let place = nul.map(|at| at + 1);
+        spot.hold(place == Some(length), FieldFault::Nul { place, length });
+    }
 }
 
 #[cfg(test)]
 mod tests {
-    use super::{fields_hold, same_identifier, walk_step, Step};
+    use super::{same_identifier, walk_step, Step};
+    use crate::numbers::Bytes;
+
+    fn fields_hold(data: &[u8], most_after: usize) -> bool {
+        super::fields(Bytes::new(data), most_after).is_empty()
+    }
 
     /// The fields that must stand, with this identifier field, then these bytes.
     fn data(identifier: &[u8], rest: &[u8]) -> Vec<u8> {

@@ -1,22 +1,30 @@
 //! An independent reading of document 01, to compare the proved library with.
 //!
 //! Each call judges the bytes it is given by itself and answers what the rules say, or the number
-//! of the refusal. The algorithms are the plainest that stay linear; [`make`] has records to judge,
-//! sound and damaged. Places in bytes count from 0, leads and occurrences from 1.
+//! of the refusal. What is refused can be explained: [`lead_findings`], [`job_findings`] and
+//! [`findings`] answer all that breaks the rule, and where it stands. The algorithms are the
+//! plainest that stay linear; [`make`] has records to judge, sound and damaged. Places in bytes
+//! count from 0, leads, occurrences and the offsets of findings from 1.
 
 #![forbid(unsafe_code)]
 
+mod beat;
 mod bounds;
 mod check;
 mod differences;
 mod encoding;
+mod finding;
 mod header;
+mod judging;
 mod leads;
 pub mod make;
 mod numbers;
+mod opening;
 mod reading;
 mod record;
-mod rows;
+mod refused;
+pub mod row;
+mod stored;
 mod stream;
 mod tables;
 #[cfg(test)]
@@ -25,9 +33,14 @@ mod writing;
 
 pub use check::crc;
 pub use encoding::{encode_lead, Coded};
-pub use header::{field, same_identifier, walk_start, walk_step, Step};
-pub use leads::{lead, Entry};
-pub use reading::{read_lead, Lead, Reader};
-pub use record::{open, Pointer};
-pub use rows::{breaks, Refused};
-pub use writing::{write_record, Writing};
+pub use finding::{
+    CodeFault, Fault, FieldFault, Finding, FrameFault, LeadFault, Needs, Part, StreamFault, What,
+    ZoneFault,
+};
+pub use header::{same_identifier, walk_step, Step};
+pub use judging::{breaks, findings};
+pub use opening::{field, open, walk_start};
+pub use reading::{lead, lead_findings, read_lead, Entry, Lead, Reader};
+pub use record::{has_letters, Pointer};
+pub use refused::Refused;
+pub use writing::{job_findings, write_record, Writing};

@@ -5,40 +5,56 @@
 
 /// The number of 2 bytes that starts at `at`, counted from 0.
 pub fn two_at(bytes: &[u8], at: usize) -> Option<u16> {
-    Bytes::from(bytes, at)?.two()
+    Bytes::new(bytes.get(at..)?).two()
 }
 
 /// The number of 4 bytes that starts at `at`, counted from 0.
 pub fn four_at(bytes: &[u8], at: usize) -> Option<u32> {
-    Bytes::from(bytes, at)?.four()
+    Bytes::new(bytes.get(at..)?).four()
 }
 
-/// A rule as a step that stops with `None` where it is broken.
-pub fn hold(rule: bool) -> Option<()> {
-    rule.then_some(())
-}
-
-/// The bytes not taken yet.
+/// The bytes not taken yet, and where the first of them stands.
 #[derive(Clone, Copy, Debug)]
-pub struct Bytes<'a>(&'a [u8]);
+pub struct Bytes<'a> {
+    bytes: &'a [u8],
+    offset: usize,
+}
 
 impl<'a> Bytes<'a> {
     pub fn new(bytes: &'a [u8]) -> Self {
-        Bytes(bytes)
+        Bytes::at(bytes, 1)
     }
 
-    fn from(bytes: &'a [u8], at: usize) -> Option<Self> {
-        bytes.get(at..).map(Bytes)
+    /// Bytes of which the first is this one of a record, counted from 1.
+    pub fn at(bytes: &'a [u8], offset: usize) -> Self {
+        Bytes { bytes, offset }
     }
 
     pub fn left(&self) -> usize {
-        self.0.len()
+        self.bytes.len()
+    }
+
+    /// The bytes themselves.
+    pub fn slice(&self) -> &'a [u8] {
+        self.bytes
+    }
+
+    /// Where the next byte stands, counted from 1.
+    pub fn offset(&self) -> usize {
+        self.offset
     }
 
     pub fn take(&mut self, count: usize) -> Option<&'a [u8]> {
-        let taken = self.0.get(..count)?;
-        self.0 = self.0.get(count..)?;
+        let taken = self.bytes.get(..count)?;
+        self.bytes = self.bytes.get(count..)?;
+        self.offset += count;
         Some(taken)
+    }
+
+    /// So many bytes as a cursor of their own.
+    pub fn part(&mut self, count: usize) -> Option<Bytes<'a>> {
+        let offset = self.offset;
+        self.take(count).map(|bytes| Bytes::at(bytes, offset))
     }
 
     pub fn byte(&mut self) -> Option<u8> {

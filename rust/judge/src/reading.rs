@@ -1,13 +1,35 @@
-//! Reading a lead: the beat's stream, the residual, then the sums: rows 11 to 14 (01, Refusal
-//! numbers).
+//! Reading a lead: what the record says of it, the beat's stream, the residual, then the sums: rows
+//! 1 to 14 (01, Refusal numbers).
 
+use crate::beat::Beat;
 use crate::differences::foreseen;
 use crate::encoding::tables_to_write;
-use crate::leads::{find, Beat, Found};
+use crate::finding::{Finding, Part, StreamFault};
+use crate::judging::{number, smallest};
+use crate::leads::{absent, rhythm, Rhythm, Span};
+use crate::numbers::Bytes;
 use crate::record::data_of;
-use crate::rows::Refused;
-use crate::stream::Values;
-use crate::tables::{tables, Tables};
+use crate::refused::Refused;
+use crate::row;
+use crate::stored::Stored;
+use crate::stream::{NoValue, Values};
+use crate::tables::{tables, Tables, SPARE};
+
+/// What the record says of a lead, its stream unread.
+#[derive(Clone, Copy, Debug, PartialEq, Eq)]
+pub struct Entry {
+    pub id: u8,
+    pub flags: u8,
+    pub order: u8,
+    pub step: u16,
+    pub interval: u16,
+    pub first: u32,
+    pub last: u32,
+    /// The number of leads of Section 3.
+    pub leads: u32,
+    /// The bytes of this lead in Section 6.
+    pub bytes: u32,
+}
 
 /// A lead as read.
 #[derive(Clone, Debug, PartialEq, Eq)]
@@ -22,6 +44,65 @@ pub struct Lead {
     pub work_cleared: bool,
 }
 
+/// A lead with all that belongs to it.
+pub struct Found<'a> {
+    rhythm: Rhythm<'a>,
+    /// The lead's place, from 0.
+    at: usize,
+    span: Span,
+    /// Section 6.
+    stored: Stored<'a>,
+    stream: Bytes<'a>,
+}
+
+/// What the record says of the lead at this place of Section 3, from 1, or the smallest of 1 to 10
+/// that applies.
+pub fn lead(record: &[u8], place: usize) -> Result<Entry, u8> {
+    let found = find(record, place).map_err(|found| number(&found))?;
+    Ok(Entry {
+        id: found.span.id,
+        flags: found.rhythm.flags,
+        order: found.stored.order,
+        step: found.stored.step,
+        interval: found.stored.interval,
+        first: found.span.first,
+        last: found.span.last,
+        leads: found.rhythm.leads.len() as u32,
+        bytes: found.stream.left() as u32,
+    })
+}
+
+/// All for which the lead at this place, from 1, is refused, whatever room is lent; nothing if it
+/// can be read.
+pub fn lead_findings(record: &[u8], place: usize) -> Vec<Finding> {
+    match find(record, place) {
+        Ok(found) => samples(record, &found).err().into_iter().collect(),
+        Err(found) => found,
+    }
+}
+
+/// The lead at this place, from 1, judged by rows 1 to 10.
+pub fn find(record: &[u8], place: usize) -> Result<Found<'_>, Vec<Finding>> {
+    smallest(record, row::LENGTH..=row::AGREEMENT)?;
+    let found = present(record, place);
+    found.ok_or_else(|| absent(record, place))
+}
+
+fn present(record: &[u8], place: usize) -> Option<Found<'_>> {
+    let rhythm = rhythm(record).ok()??;
+    let at = place.checked_sub(1)?;
+    let span = *rhythm.leads.get(at)?;
+    let stored = rhythm.stored.clone()?;
+    let stream = *stored.streams.get(at)?;
+    Some(Found {
+        rhythm,
+        at,
+        span,
+        stored,
+        stream,
+    })
+}
+
 /// Reads the lead at this place of Section 3, from 1, into room for `out_len` samples, with work
 /// space for `work_len` numbers.
 pub fn read_lead(
@@ -30,14 +111,14 @@ pub fn read_lead(
     out_len: usize,
     work_len: usize,
 ) -> Result<Lead, Refused> {
-    let found = find(record, place).map_err(Refused::untouched)?;
+    let found = find(record, place).map_err(|found| Refused::untouched(number(&found)))?;
     let beat_count = found.rhythm.beat.as_ref().map_or(0, |beat| beat.count);
     if out_len < found.span.count() || work_len < beat_count {
-        return Err(Refused::untouched(11));
+        return Err(Refused::untouched(row::ROOM));
     }
     let work_cleared = found.rhythm.beat.is_some();
-    let samples = samples(record, &found).map_err(|number| Refused {
-        number,
+    let samples = samples(record, &found).map_err(|finding| Refused {
+        number: finding.row,
         work_cleared,
     })?;
     Ok(Lead {
@@ -52,24 +133,88 @@ pub fn read_lead(
 }
 
 /// The beat, then the residual, then the sums; what fails first is the refusal.
-fn samples(record: &[u8], found: &Found) -> Result<Vec<i16>, u8> {
-    let tables = data_of(record, 2).and_then(|data| tables(data, 1));
-    let residual = |tables| {
-        let (order, count) = (found.stored.order, found.span.count());
-        read_stream(found.stream, tables, order, count)
+pub fn samples(record: &[u8], found: &Found) -> Result<Vec<i16>, Finding> {
+    let tables = data_of(record, 2).and_then(|data| tables(data, SPARE).ok());
+    let lead = found.at + 1;
+    let residual = Stream {
+        bytes: found.stream,
+        order: found.stored.order,
+        first: found.span.first.into(),
+        section: 6,
+        lead,
     };
-    match &found.rhythm.beat {
-        None => residual(tables.as_ref()),
-        Some(beat) => {
-            let stream = beat.stored.streams.get(found.at).ok_or(8)?;
-            let subtracted = read_stream(stream, tables.as_ref(), beat.stored.order, beat.count)?;
-            add(
-                beat,
-                &subtracted,
-                found.span.first,
-                residual(tables.as_ref())?,
-            )
+    let Some(beat) = &found.rhythm.beat else {
+        return residual.samples(tables.as_ref(), found.span.count());
+    };
+    let subtracted = Stream {
+        bytes: beat.stored.streams[found.at],
+        order: beat.stored.order,
+        first: 1,
+        section: 5,
+        lead,
+    };
+    let subtracted = subtracted.samples(tables.as_ref(), beat.count)?;
+    let residual = residual.samples(tables.as_ref(), found.span.count())?;
+    add(beat, &subtracted, found, residual)
+}
+
+/// A lead's stream, with what it takes to read it and to say where it is wrong.
+struct Stream<'a> {
+    bytes: Bytes<'a>,
+    order: u8,
+    /// The number of the first sample.
+    first: u64,
+    section: u16,
+    /// From 1.
+    lead: usize,
+}
+
+impl Stream<'_> {
+    fn samples(&self, tables: Option<&Tables>, count: usize) -> Result<Vec<i16>, Finding> {
+        let read = read_stream(self.bytes.slice(), tables, self.order, count);
+        read.map_err(|wrong| self.finding(wrong))
+    }
+
+    fn finding(&self, wrong: Wrong) -> Finding {
+        let number = self.first + wrong.at as u64;
+        let lead = self.lead;
+        Finding {
+            row: wrong.row(),
+            section: Some(self.section),
+            offset: wrong.bit.map(|bit| self.bytes.offset() + (bit - 1) / 8),
+            part: match wrong.fault {
+                StreamFault::LeftOver { .. } => Part::Lead(lead),
+                _ => Part::Sample { lead, number },
+            },
+            fault: wrong.fault.into(),
         }
+    }
+}
+
+/// What is wrong with a stream: at the sample of this place, from 0, and at this bit, from 1.
+#[derive(Clone, Debug)]
+pub struct Wrong {
+    pub at: usize,
+    pub bit: Option<usize>,
+    pub fault: StreamFault,
+}
+
+impl Wrong {
+    pub fn row(&self) -> u8 {
+        match self.fault {
+            StreamFault::Outside(_) => row::SAMPLE,
+            StreamFault::LeftOver { .. } => row::LEFT_OVER_BITS,
+            _ => row::CODE,
+        }
+    }
+
+    fn value(at: usize, why: NoValue) -> Self {
+        let (bit, fault) = match why {
+            NoValue::NoCode { table, bit, bits } => (bit, StreamFault::NoCode { table, bit, bits }),
+            NoValue::Ends { bit, bits } => (bit, StreamFault::Ends { bit, bits }),
+        };
+        let bit = Some(bit);
+        Wrong { at, bit, fault }
     }
 }
 
@@ -80,18 +225,59 @@ pub fn read_stream(
     tables: Option<&Tables>,
     order: u8,
     count: usize,
-) -> Result<Vec<i16>, u8> {
+) -> Result<Vec<i16>, Wrong> {
     let mut values = Values::new(stream, tables);
     let mut samples = Vec::new();
-    for _ in 0..count {
-        let value = values.next().ok_or(12)?;
+    for at in 0..count {
+        let value = values.next().map_err(|why| Wrong::value(at, why))?;
         let sample = foreseen(order, &samples) + value;
-        samples.push(i16::try_from(sample).map_err(|_| 13)?);
+        samples.push(i16::try_from(sample).map_err(|_| Wrong {
+            at,
+            bit: None,
+            fault: StreamFault::Outside(sample),
+        })?);
     }
-    match values.bits_left() {
+    let (left, bits) = (values.bits_left(), values.bits());
+    match left {
         0..=7 => Ok(samples),
-        _ => Err(14),
+        _ => Err(Wrong {
+            at: count,
+            bit: Some(bits - left + 1),
+            fault: StreamFault::LeftOver { left, bits },
+        }),
     }
+}
+
+/// Adds the beat to the samples that the lead has of each zone.
+fn add(
+    beat: &Beat,
+    subtracted: &[i16],
+    found: &Found,
+    residual: Vec<i16>,
+) -> Result<Vec<i16>, Finding> {
+    let mut zones = beat.zones.iter().peekable();
+    let mut sums = Vec::new();
+    for (n, sample) in (found.span.first..=u32::MAX).zip(residual) {
+        while zones.next_if(|zone| zone.end < n).is_some() {}
+        let zone = zones.peek().filter(|zone| zone.start <= n);
+        let beat_sample = zone.map_or(0, |zone| zone.beat_sample(n, beat.fiducial));
+        let added = match zone {
+            Some(_) => subtracted[(beat_sample - 1) as usize],
+            None => 0,
+        };
+        let sum = i32::from(sample) + i32::from(added);
+        sums.push(i16::try_from(sum).map_err(|_| Finding {
+            row: row::SAMPLE,
+            section: None,
+            offset: None,
+            part: Part::Sample {
+                lead: found.at + 1,
+                number: n.into(),
+            },
+            fault: StreamFault::SumOutside { sum, beat_sample }.into(),
+        })?);
+    }
+    Ok(sums)
 }
 
 /// Reads streams outside of a record.
@@ -103,39 +289,20 @@ pub struct Reader {
 impl Reader {
     /// By the data of a Section 2 without a spare byte, empty for none. Refused with 7.
     pub fn new(section2: &[u8]) -> Result<Self, u8> {
-        let tables = tables_to_write(section2)?;
+        let tables = tables_to_write(section2).map_err(|found| number(&found))?;
         Ok(Reader { tables })
     }
 
     /// So many samples out of a stream, or 12 to 14.
     pub fn samples(&self, stream: &[u8], order: u8, count: usize) -> Result<Vec<i16>, u8> {
-        read_stream(stream, self.tables.as_ref(), order, count)
+        let read = read_stream(stream, self.tables.as_ref(), order, count);
+        read.map_err(|wrong| wrong.row())
     }
 
     /// The bits that are left of a stream after these values; `None` if it reads to others.
     pub fn bits_after(&self, stream: &[u8], values: &[i32]) -> Option<usize> {
         let mut read = Values::new(stream, self.tables.as_ref());
-        let same = values.iter().all(|&value| read.next() == Some(value));
+        let same = values.iter().all(|&value| read.next() == Ok(value));
         same.then(|| read.bits_left())
     }
-}
-
-/// Adds the beat to the samples that the lead has of each zone.
-fn add(beat: &Beat, subtracted: &[i16], first: u32, residual: Vec<i16>) -> Result<Vec<i16>, u8> {
-    let mut zones = beat.zones.iter().peekable();
-    let mut sums = Vec::new();
-    for (n, sample) in (first..=u32::MAX).zip(residual) {
-        while zones.next_if(|zone| zone.end < n).is_some() {}
-        let added = match zones.peek() {
-            Some(zone) if zone.start <= n => {
-                let number = zone.beat_sample(n, beat.fiducial);
-                let at = usize::try_from(number - 1).map_err(|_| 8)?;
-                *subtracted.get(at).ok_or(8)?
-            }
-            _ => 0,
-        };
-        let sum = i32::from(sample) + i32::from(added);
-        sums.push(i16::try_from(sum).map_err(|_| 13)?);
-    }
-    Ok(sums)
 }

@@ -2,8 +2,9 @@
 
 use crate::bounds;
 use crate::check::crc;
-use crate::numbers::{four_at, hold, two_at, Bytes};
-use crate::rows::smallest;
+use crate::finding::{Fault, Finding, Findings, FrameFault, Needs, Part, What};
+use crate::numbers::{four_at, two_at, Bytes};
+use crate::row;
 use std::ops::Range;
 
 /// Bytes of the head that each section starts with.
@@ -14,6 +15,10 @@ pub const BEFORE_SECTION_0: usize = 6;
 pub const POINTER: usize = 10;
 /// What Section 0 has in its reserved bytes.
 pub const LETTERS: &[u8; 6] = b"SCPECG";
+/// How many IDs stand in order, before those that only rise.
+const IN_ORDER: usize = 12;
+/// Where Section 0 says that it starts, counted from 1.
+const OWN_INDEX: i64 = 7;
 
 /// A pointer of Section 0, as stored.
 #[derive(Clone, Copy, Debug, PartialEq, Eq)]
@@ -42,123 +47,221 @@ impl Pointer {
         let end = start.checked_add(usize::try_from(self.length).ok()?)?;
         Some(start..end)
     }
-}
 
-/// Opens a record: its pointers as stored, or the smallest of 1 to 6 that applies.
-pub fn open(record: &[u8]) -> Result<Vec<Pointer>, u8> {
-    smallest(record, 1..=6)?;
-    Ok(pointers(record))
+    /// The first and last byte of a section that is present, counted from 1.
+    fn span(&self) -> (u64, u64) {
+        let (start, length) = (u64::from(self.index), u64::from(self.length));
+        (start, (start + length).saturating_sub(1))
+    }
+
+    fn overlaps(&self, other: &Pointer) -> bool {
+        let (own, others) = (self.span(), other.span());
+        own.0 <= others.1 && others.0 <= own.1
+    }
 }
 
 /// Row 1: the length is outside its bounds or not the size field's.
-pub fn size_breaks(record: &[u8]) -> bool {
-    let size = four_at(record, 2).and_then(|size| usize::try_from(size).ok());
-    !bounds::RECORD.contains(&record.len()) || size != Some(record.len())
+pub fn size(record: &[u8]) -> Vec<Finding> {
+    let mut found = Findings::new(row::LENGTH, None);
+    let (length, field) = (record.len(), four_at(record, 2));
+    let is_said = field.and_then(|size| usize::try_from(size).ok()) == Some(length);
+    if !bounds::RECORD.contains(&length) || !is_said {
+        found
+            .of(Part::Whole)
+            .push(FrameFault::Size { length, field });
+    }
+    found.list()
 }
 
 /// Row 2: the record's check, over its byte 3 to the end.
-pub fn check_breaks(record: &[u8]) -> bool {
-    !is_checked(record)
+pub fn record_check(record: &[u8]) -> Vec<Finding> {
+    let mut found = Findings::new(row::RECORD_CHECK, None);
+    check(record, &mut found);
+    found.list()
 }
 
-/// Row 3: Section 0.
-pub fn section_0_breaks(record: &[u8]) -> bool {
-    section_0(record).is_none()
+/// Row 3: Section 0, its check aside.
+pub fn section_0(record: &[u8]) -> Vec<Finding> {
+    let mut found = Findings::new(row::SECTION_0, Some(0));
+    let section = record.get(BEFORE_SECTION_0..).unwrap_or_default();
+    header_of_section_0(section, &mut found);
+    let pointers = pointers(record);
+    ids(&pointers, &mut found);
+    if let (Some(own), Some(length)) = (pointers.first(), four_at(section, 4)) {
+        let mut spot = found.at(Part::Pointer(1), pointer_offset(0));
+        spot.number(What::OwnIndex, own.index, OWN_INDEX..=OWN_INDEX);
+        let length = i64::from(length);
+        spot.number(What::OwnLength, own.length, length..=length);
+    }
+    found.list()
+}
+
+/// Section 0's ID, letters and length.
+fn header_of_section_0(section: &[u8], found: &mut Findings) {
+    let Some(header) = section.get(..HEADER) else {
+        let mut spot = found.of(Part::Whole);
+        return spot.short(Needs::Section, HEADER, section.len());
+    };
+    let offset = |at| BEFORE_SECTION_0 + at + 1;
+    if let Some(id) = two_at(header, 2) {
+        let mut spot = found.at(Part::Whole, offset(2));
+        spot.number(What::HeaderId, id, 0..=0);
+    }
+    if let Ok(letters) = header[10..].try_into() {
+        let mut spot = found.at(Part::Whole, offset(10));
+        spot.hold(letters == *LETTERS, FrameFault::Letters(letters));
+    }
+    let Some(length) = four_at(header, 4) else {
+        return;
+    };
+    let mut spot = found.at(Part::Whole, offset(4));
+    let needs = usize::try_from(length).unwrap_or(usize::MAX);
+    if pointer_count(needs).is_none() {
+        spot.push(FrameFault::PointersLength(length));
+    } else if needs > section.len() {
+        spot.short(Needs::Section, needs, section.len());
+    }
+}
+
+/// IDs 0 to 11 come first; after them each is larger than the one before.
+fn ids(pointers: &[Pointer], found: &mut Findings) {
+    let mut before = IN_ORDER as i64 - 1;
+    for (at, pointer) in pointers.iter().enumerate() {
+        let expected = match at {
+            0..IN_ORDER => at as i64..=at as i64,
+            _ => before + 1..=i64::from(u16::MAX),
+        };
+        let mut spot = found.at(Part::Pointer(at + 1), pointer_offset(at));
+        spot.number(What::PointerId, pointer.id, expected);
+        if at >= IN_ORDER {
+            before = i64::from(pointer.id).max(IN_ORDER as i64 - 1);
+        }
+    }
 }
 
 /// Row 4: the places, lengths and headers of the other sections, and Section 1 present.
-pub fn places_break(record: &[u8]) -> bool {
-    places_hold(record, &pointers(record)).is_none()
+pub fn places(record: &[u8]) -> Vec<Finding> {
+    let mut found = Findings::new(row::PLACES, None);
+    let pointers = pointers(record);
+    let Some((own, others)) = pointers.split_first() else {
+        return found.list();
+    };
+    if others.iter().any(|one| one.id == 1 && !one.is_present()) {
+        found.go_to(1);
+        found.of(Part::Whole).push(Fault::Absent);
+    }
+    let present: Vec<_> = others.iter().filter(|one| one.is_present()).collect();
+    for (at, pointer) in present.iter().enumerate() {
+        found.go_to(pointer.id);
+        place(record, pointer, own.span().1, &mut found);
+        header(record, pointer, &mut found);
+        for other in present[..at].iter().filter(|one| pointer.overlaps(one)) {
+            found.of(Part::Whole).push(FrameFault::Overlap {
+                own: pointer.span(),
+                section: other.id,
+                other: other.span(),
+            });
+        }
+    }
+    found.list()
+}
+
+/// A section's length, and its place after Section 0 and inside the record.
+fn place(record: &[u8], pointer: &Pointer, section_0_end: u64, found: &mut Findings) {
+    let mut spot = found.of(Part::Whole);
+    let length = pointer.length;
+    spot.hold(length % 2 == 0, FrameFault::OddLength(length));
+    spot.number(What::SectionLength, length, HEADER as i64..=i64::MAX);
+    let ((start, end), size) = (pointer.span(), record.len() as u64);
+    let early = FrameFault::InSection0 {
+        start,
+        end: section_0_end,
+    };
+    spot.hold(start > section_0_end, early);
+    spot.hold(end <= size, FrameFault::PastEnd { start, end, size });
+}
+
+/// Whether a section's header repeats its pointer.
+fn header(record: &[u8], pointer: &Pointer, found: &mut Findings) {
+    let Some(start) = pointer.place().map(|place| place.start) else {
+        return;
+    };
+    if let Some(id) = two_at(record, start + 2) {
+        let right = i64::from(pointer.id);
+        let mut spot = found.at(Part::Whole, start + 3);
+        spot.number(What::HeaderId, id, right..=right);
+    }
+    if let Some(length) = four_at(record, start + 4) {
+        let right = i64::from(pointer.length);
+        let mut spot = found.at(Part::Whole, start + 5);
+        spot.number(What::HeaderLength, length, right..=right);
+    }
 }
 
 /// Row 5: the check of each present section, Section 0's too.
-pub fn section_checks_break(record: &[u8]) -> bool {
-    let checked = |pointer: &Pointer| bytes_of(record, pointer).is_some_and(is_checked);
-    !present(&pointers(record)).all(checked)
-}
-
-/// The place of the section with this ID, counted from 0; `None` if it is absent.
-pub fn place_of(record: &[u8], id: u16) -> Option<Range<usize>> {
-    let place = present(&pointers(record))
-        .find(|pointer| pointer.id == id)?
-        .place()?;
-    hold(place.start.checked_add(HEADER)? <= place.end && place.end <= record.len())?;
-    Some(place)
-}
-
-/// The bytes after the header of the section with this ID; `None` if it is absent.
-pub fn data_of(record: &[u8], id: u16) -> Option<&[u8]> {
-    record.get(place_of(record, id)?)?.get(HEADER..)
-}
-
-/// The pointers of a record that keeps to row 3; none of any other.
-fn pointers(record: &[u8]) -> Vec<Pointer> {
-    section_0(record).unwrap_or_default()
-}
-
-fn present(pointers: &[Pointer]) -> impl Iterator<Item = &Pointer> {
-    pointers.iter().filter(|pointer| pointer.is_present())
-}
-
-fn bytes_of<'a>(record: &'a [u8], pointer: &Pointer) -> Option<&'a [u8]> {
-    record.get(pointer.place()?)
+pub fn section_checks(record: &[u8]) -> Vec<Finding> {
+    let mut found = Findings::new(row::SECTION_CHECK, None);
+    for pointer in pointers(record).iter().filter(|one| one.is_present()) {
+        found.go_to(pointer.id);
+        if let Some(section) = pointer.place().and_then(|place| record.get(place)) {
+            check(section, &mut found);
+        }
+    }
+    found.list()
 }
 
 /// Whether the first two bytes are the check over all after them; so it stands in records and in
 /// sections.
-fn is_checked(bytes: &[u8]) -> bool {
-    bytes
-        .get(2..)
-        .is_some_and(|rest| two_at(bytes, 0) == Some(crc(rest)))
-}
-
-/// The pointers, if Section 0 keeps its rules, its check aside.
-fn section_0(record: &[u8]) -> Option<Vec<Pointer>> {
-    let length = four_at(record, BEFORE_SECTION_0 + 4)?;
-    let end = BEFORE_SECTION_0.checked_add(usize::try_from(length).ok()?)?;
-    let section = record.get(BEFORE_SECTION_0..end)?;
-    hold(two_at(section, 2)? == 0)?;
-    hold(section.get(10..HEADER)? == LETTERS)?;
-    let data = section.get(HEADER..)?;
-    hold(data.len() % POINTER == 0)?;
-    hold(bounds::POINTERS.contains(&(data.len() / POINTER)))?;
-    let pointers: Vec<Pointer> = data.chunks(POINTER).filter_map(Pointer::of).collect();
-    hold(ids_hold(&pointers))?;
-    let own = pointers.first()?;
-    hold(own.index == 7 && own.length == length)?;
-    Some(pointers)
-}
-
-/// IDs 0 to 11 come first; after them each is larger than the one before.
-fn ids_hold(pointers: &[Pointer]) -> bool {
-    let ids: Vec<u16> = pointers.iter().map(|pointer| pointer.id).collect();
-    let in_order = ids.iter().take(12).copied().eq(0..=11);
-    in_order && ids.windows(2).all(|pair| pair[0] < pair[1])
-}
-
-/// Each section's own rules, then no overlap: taken by their indexes, none starts before the one
-/// before it ends.
-fn places_hold(record: &[u8], pointers: &[Pointer]) -> Option<()> {
-    let (own, others) = pointers.split_first()?;
-    let mut places = Vec::new();
-    for pointer in present(others) {
-        places.push(place_that_holds(record, pointer)?);
+fn check(bytes: &[u8], found: &mut Findings) {
+    if let (Some(stored), Some(rest)) = (two_at(bytes, 0), bytes.get(2..)) {
+        let computed = crc(rest);
+        let fault = FrameFault::Check { stored, computed };
+        found.of(Part::Whole).hold(stored == computed, fault);
     }
-    places.sort_by_key(|place| place.start);
-    let mut end = own.place()?.end;
-    for place in places {
-        hold(end <= place.start)?;
-        end = place.end;
-    }
-    hold(others.first()?.id == 1 && others.first()?.is_present())
 }
 
-/// The place of a section whose length and header keep their rules and that lies inside the record.
-fn place_that_holds(record: &[u8], pointer: &Pointer) -> Option<Range<usize>> {
-    let place = pointer.place()?;
-    let section = record.get(place.clone())?;
-    hold(section.len() % 2 == 0 && section.len() >= HEADER)?;
-    hold(two_at(section, 2)? == pointer.id)?;
-    hold(four_at(section, 4)? == pointer.length)?;
-    Some(place)
+/// The place of the section with this ID, counted from 0; `None` if it is absent.
+pub fn place_of(record: &[u8], id: u16) -> Option<Range<usize>> {
+    let pointers = pointers(record);
+    let mut present = pointers.iter().filter(|one| one.is_present());
+    let place = present.find(|pointer| pointer.id == id)?.place()?;
+    let is_inside = place.start.checked_add(HEADER)? <= place.end && place.end <= record.len();
+    is_inside.then_some(place)
+}
+
+/// The bytes after the header of the section with this ID; `None` if it is absent.
+pub fn data_of(record: &[u8], id: u16) -> Option<Bytes<'_>> {
+    let place = place_of(record, id)?;
+    let data = record.get(place.start + HEADER..place.end)?;
+    Some(Bytes::at(data, place.start + HEADER + 1))
+}
+
+/// How many pointers a Section 0 of this length has, if it can have this length.
+fn pointer_count(length: usize) -> Option<usize> {
+    let data = length.checked_sub(HEADER)?;
+    let count = data / POINTER;
+    (data % POINTER == 0 && bounds::POINTERS.contains(&count)).then_some(count)
+}
+
+/// The byte that a pointer starts at, counted from 1; the pointer's place counts from 0.
+fn pointer_offset(at: usize) -> usize {
+    BEFORE_SECTION_0 + HEADER + POINTER * at + 1
+}
+
+/// The pointers as stored, as many as Section 0's length has room for and the record holds.
+pub fn pointers(record: &[u8]) -> Vec<Pointer> {
+    let length = four_at(record, BEFORE_SECTION_0 + 4);
+    let count = length
+        .and_then(|length| usize::try_from(length).ok())
+        .and_then(pointer_count)
+        .unwrap_or(0);
+    (0..count)
+        .map_while(|at| Pointer::of(record.get(pointer_offset(at) - 1..)?))
+        .collect()
+}
+
+/// Whether the letters of Section 0 stand where every record has them.
+pub fn has_letters(record: &[u8]) -> bool {
+    let at = BEFORE_SECTION_0 + 10;
+    record.get(at..at + LETTERS.len()) == Some(LETTERS)
 }

@@ -16,7 +16,7 @@ impl<'a> Bits<'a> {
     }
 
     pub fn left(&self) -> usize {
-        self.bytes.len() * 8 - self.taken
+        self.bits() - self.taken
     }
 
     /// The next 32 bits, the first on top, filled up with zeros past the end.
@@ -41,15 +41,49 @@ impl<'a> Bits<'a> {
         Some(value)
     }
 
-    /// The meaning of the next code of this table.
-    fn code(&mut self, table: &[Structure]) -> Option<Meaning> {
+    /// The meaning of the next code of this table, which has this number.
+    fn code(&mut self, table: &[Structure], number: usize) -> Result<Meaning, NoValue> {
         let (next, left) = (self.next_32(), self.left());
-        let matched = table
-            .iter()
-            .find(|structure| structure.matches(next, left))?;
-        self.skip(matched.prefix_bits);
-        Some(matched.meaning)
+        let mut codes = table.iter();
+        match codes.find(|code| code.matches(next, left)) {
+            Some(code) => {
+                self.skip(code.prefix_bits);
+                Ok(code.meaning)
+            }
+            None if table.iter().any(|code| code.goes_on(next, left)) => Err(self.ends()),
+            None => Err(NoValue::NoCode {
+                table: number,
+                bit: self.taken + 1,
+                bits: self.bits(),
+            }),
+        }
     }
+
+    /// All bits, taken and left.
+    pub fn bits(&self) -> usize {
+        self.bytes.len() * 8
+    }
+
+    /// That the stream ends in the code that starts here.
+    fn ends(&self) -> NoValue {
+        NoValue::Ends {
+            bit: self.taken + 1,
+            bits: self.bits(),
+        }
+    }
+}
+
+/// Why there is no next value. Bits count from 1.
+#[derive(Clone, Copy, Debug, PartialEq, Eq)]
+pub enum NoValue {
+    /// No code of this table starts at this bit.
+    NoCode {
+        table: usize,
+        bit: usize,
+        bits: usize,
+    },
+    /// The stream ends in the code that starts at this bit, or before it.
+    Ends { bit: usize, bits: usize },
 }
 
 /// Reads values one after another, by tables or, without Section 2, of two signed bytes each.
@@ -71,8 +105,8 @@ impl<'a> Values<'a> {
         }
     }
 
-    /// The next value; `None` if the bits do not make a whole code.
-    pub fn next(&mut self) -> Option<i32> {
+    /// The next value, if the bits make a whole code.
+    pub fn next(&mut self) -> Result<i32, NoValue> {
         match self.tables {
             Some(tables) => self.next_by(tables),
             None => self.next_two_bytes(),
@@ -83,25 +117,32 @@ impl<'a> Values<'a> {
         self.bits.left()
     }
 
+    /// All bits of the stream.
+    pub fn bits(&self) -> usize {
+        self.bits.bits()
+    }
+
     /// Takes codes until one is a value; switches change the table on the way.
-    fn next_by(&mut self, tables: &Tables) -> Option<i32> {
+    fn next_by(&mut self, tables: &Tables) -> Result<i32, NoValue> {
         loop {
-            let table = tables.get(self.table.checked_sub(1)?)?;
-            match self.bits.code(table)? {
-                Meaning::Value(value) => return Some(value.into()),
-                Meaning::Remainder(bits) => return self.bits.signed(bits),
+            let table = self.table.checked_sub(1).and_then(|at| tables.get(at));
+            let ends = self.bits.ends();
+            match self
+                .bits
+                .code(table.map_or(&[], Vec::as_slice), self.table)?
+            {
+                Meaning::Value(value) => return Ok(value.into()),
+                Meaning::Remainder(bits) => return self.bits.signed(bits).ok_or(ends),
                 Meaning::Switch(table) => self.table = table,
             }
         }
     }
 
-    fn next_two_bytes(&mut self) -> Option<i32> {
-        if self.bits.left() < 16 {
-            return None;
-        }
-        let lower = self.bits.signed(8)? & 0xFF;
-        let upper = self.bits.signed(8)?;
-        Some(upper << 8 | lower)
+    fn next_two_bytes(&mut self) -> Result<i32, NoValue> {
+        let ends = self.bits.ends();
+        let pair = self.bits.signed(8).zip(self.bits.signed(8));
+        let (lower, upper) = pair.ok_or(ends)?;
+        Ok(upper << 8 | lower & 0xFF)
     }
 }
 
@@ -147,7 +188,7 @@ impl Put {
 
 #[cfg(test)]
 mod tests {
-    use super::{Put, Values};
+    use super::{NoValue, Put, Values};
     use crate::tables::default_table;
     use crate::vectors::{examples, tables_named};
 
@@ -156,7 +197,7 @@ mod tests {
         for example in examples().iter().filter(|example| example.kind != "none") {
             let mut values = Values::new(&example.bytes, Some(&example.tables));
             for &value in &example.values {
-                assert_eq!(values.next(), Some(value));
+                assert_eq!(values.next(), Ok(value));
             }
             assert_eq!(values.bits_left(), example.bytes.len() * 8 - example.bits);
         }
@@ -178,7 +219,7 @@ mod tests {
     #[test]
     fn remainders_are_signed_and_nothing_is_added() {
         let tables = tables_named("example");
-        let value = |bytes: &[u8]| Values::new(bytes, Some(&tables)).next();
+        let value = |bytes: &[u8]| Values::new(bytes, Some(&tables)).next().ok();
         assert_eq!(value(&[0xF0, 0xD0]), Some(13));
         assert_eq!(value(&[0xFF, 0xF0]), Some(-1));
         assert_eq!(value(&[0xF8, 0x00]), Some(-128));
@@ -187,20 +228,20 @@ mod tests {
     #[test]
     fn codes_that_match_nothing_or_run_out() {
         let tables = tables_named("example");
-        let value = |bytes: &[u8]| Values::new(bytes, Some(&tables)).next();
+        let value = |bytes: &[u8]| Values::new(bytes, Some(&tables)).next().ok();
         assert_eq!(value(&[]), None);
         assert_eq!(value(&[0xFF]), None, "cut in the remainder");
         assert_eq!(value(&[0xEF, 0xDF]), None, "switches to the end");
         let one = vec![vec![tables[0][4]]];
-        assert_eq!(Values::new(&[0x80], Some(&one)).next(), None);
+        assert_eq!(Values::new(&[0x80], Some(&one)).next().ok(), None);
     }
 
     #[test]
     fn two_signed_bytes_without_section_2() {
         let mut values = Values::new(&[0xE8, 0x03, 0x18, 0xFC, 0x00, 0x80, 0xFF], None);
-        assert_eq!(values.next(), Some(1000));
-        assert_eq!(values.next(), Some(-1000));
-        assert_eq!(values.next(), Some(-32_768));
-        assert_eq!(values.next(), None);
+        assert_eq!(values.next(), Ok(1000));
+        assert_eq!(values.next(), Ok(-1000));
+        assert_eq!(values.next(), Ok(-32_768));
+        assert_eq!(values.next(), Err(NoValue::Ends { bit: 49, bits: 56 }));
     }
 }

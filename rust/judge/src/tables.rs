@@ -1,11 +1,20 @@
 //! Section 2: code tables and the default table: row 7 (01, Code tables).
 
 use crate::bounds;
-use crate::numbers::{hold, Bytes};
+use crate::finding::{self, CodeFault, Fault, Finding, Findings, Needs, Part, Spot, What};
+use crate::numbers::Bytes;
 use crate::record::data_of;
+use crate::row;
 
 /// The number of tables that means the default table alone.
 pub const DEFAULT: u16 = 19_999;
+/// Section 2 may end in so many spare bytes.
+pub const SPARE: usize = 1;
+/// Bytes of a structure.
+const STRUCTURE: usize = 9;
+/// The most bits of a prefix and of a remainder.
+const PREFIX_MAX: i64 = 32;
+const REMAINDER_MAX: i64 = 16;
 
 /// What stands after a matched prefix, and what it means.
 #[derive(Clone, Copy, Debug, PartialEq, Eq)]
@@ -31,69 +40,171 @@ pub struct Structure {
 /// The tables of a Section 2, table 1 first.
 pub type Tables = Vec<Vec<Structure>>;
 
+/// A code structure as stored.
+#[derive(Clone, Copy, Debug)]
+struct Raw {
+    prefix_bits: u8,
+    code_bits: u8,
+    mode: u8,
+    base_value: i16,
+    base_code: u32,
+}
+
 /// Row 7: Section 2, where it is present, with at most one spare byte.
-pub fn section_2_breaks(record: &[u8]) -> bool {
-    data_of(record, 2).is_some_and(|data| tables(data, 1).is_none())
+pub fn section_2(record: &[u8]) -> Vec<Finding> {
+    let judged = data_of(record, 2).map(|data| tables(data, SPARE));
+    judged.and_then(Result::err).unwrap_or_default()
 }
 
 /// The tables that these data give, if they keep the rules and end in at most so many spare bytes.
-pub fn tables(data: &[u8], most_spare: usize) -> Option<Tables> {
-    let mut data = Bytes::new(data);
-    let tables = match data.two()? {
-        DEFAULT => vec![default_table()],
-        number => own_tables(&mut data, usize::from(number))?,
+pub fn tables(mut data: Bytes, most_spare: usize) -> Result<Tables, Vec<Finding>> {
+    let mut found = Findings::new(row::SECTION_2, Some(2));
+    let tables = all(&mut data, &mut found);
+    if tables.is_some() {
+        let (after, most) = (data.left(), most_spare);
+        let mut spot = found.at(Part::Whole, data.offset());
+        spot.hold(after <= most, Fault::After { found: after, most });
+    }
+    found.or(tables)
+}
+
+/// All tables; `None` where the data end before them, or cannot be read on.
+fn all(data: &mut Bytes, found: &mut Findings) -> Option<Tables> {
+    let left = data.left();
+    let mut spot = found.at(Part::Whole, data.offset());
+    let Some(number) = data.two() else {
+        spot.short(Needs::Head, 2, left);
+        return None;
     };
-    hold(data.left() <= most_spare)?;
-    Some(tables)
+    if number == DEFAULT {
+        return Some(vec![default_table()]);
+    }
+    if !spot.number(What::Tables, number, finding::bounds(&bounds::TABLES)) {
+        return None;
+    }
+    let number = usize::from(number);
+    let tables = (1..=number).map(|own| table(data, own, number, found));
+    tables.collect()
 }
 
-fn own_tables(data: &mut Bytes, number: usize) -> Option<Tables> {
-    hold(bounds::TABLES.contains(&number))?;
-    (0..number).map(|_| table(data, number)).collect()
+/// A table of so many; `None` where the data end in it, or cannot be read on.
+fn table(
+    data: &mut Bytes,
+    own: usize,
+    tables: usize,
+    found: &mut Findings,
+) -> Option<Vec<Structure>> {
+    let left = data.left();
+    let mut spot = found.at(Part::Table(own), data.offset());
+    let Some(number) = data.two() else {
+        spot.short(Needs::Table, 2, left);
+        return None;
+    };
+    if !spot.number(
+        What::Structures,
+        number,
+        finding::bounds(&bounds::STRUCTURES),
+    ) {
+        return None;
+    }
+    let (number, left) = (usize::from(number), data.left());
+    let Some(mut rows) = data.part(STRUCTURE * number) else {
+        spot.short(Needs::Structures(number), STRUCTURE * number, left);
+        return None;
+    };
+    let mut met: Vec<Raw> = Vec::new();
+    let mut table = Vec::new();
+    for place in 1..=number {
+        let mut spot = found.at(Part::Structure { table: own, place }, rows.offset());
+        let raw = raw(&mut rows)?;
+        table.extend(structure(&raw, tables, &mut spot));
+        prefixes(&raw, &met, &mut spot);
+        met.push(raw);
+    }
+    Some(table)
 }
 
-fn table(data: &mut Bytes, tables: usize) -> Option<Vec<Structure>> {
-    let number = usize::from(data.two()?);
-    hold(bounds::STRUCTURES.contains(&number))?;
-    let table: Option<Vec<Structure>> = (0..number).map(|_| structure(data, tables)).collect();
-    table.filter(|table| is_prefix_free(table))
-}
-
-/// The next 9 bytes as a structure.
-fn structure(data: &mut Bytes, tables: usize) -> Option<Structure> {
-    let (prefix_bits, code_bits, mode) = (data.byte()?, data.byte()?, data.byte()?);
-    let (base_value, base_code) = (data.two_signed()?, data.four()?);
-    hold((1..=32).contains(&prefix_bits))?;
-    let prefix_bits = u32::from(prefix_bits);
-    hold(u64::from(base_code) >> prefix_bits == 0)?;
-    let remainder = u32::from(code_bits).checked_sub(prefix_bits)?;
-    hold(remainder <= 16)?;
-    Some(Structure {
-        prefix_bits,
-        prefix: base_code.reverse_bits(),
-        meaning: meaning(mode, remainder, base_value, tables)?,
+/// The next 9 bytes.
+fn raw(data: &mut Bytes) -> Option<Raw> {
+    Some(Raw {
+        prefix_bits: data.byte()?,
+        code_bits: data.byte()?,
+        mode: data.byte()?,
+        base_value: data.two_signed()?,
+        base_code: data.four()?,
     })
 }
 
-fn meaning(mode: u8, remainder: u32, base_value: i16, tables: usize) -> Option<Meaning> {
-    match (mode, remainder) {
-        (1, 0) => Some(Meaning::Value(base_value)),
-        (1, _) => Some(Meaning::Remainder(remainder)),
-        (0, 0) => {
-            let table = usize::try_from(base_value).ok()?;
-            hold((1..=tables).contains(&table))?;
-            Some(Meaning::Switch(table))
+/// A structure by itself.
+fn structure(raw: &Raw, tables: usize, spot: &mut Spot) -> Option<Structure> {
+    let (prefix_bits, code_bits, code) = (raw.prefix_bits, raw.code_bits, raw.base_code);
+    if spot.number(What::PrefixBits, prefix_bits, 1..=PREFIX_MAX) {
+        let fits = u64::from(code) >> prefix_bits == 0;
+        spot.hold(fits, CodeFault::BaseCode { code, prefix_bits });
+    }
+    let remainder = code_bits.checked_sub(prefix_bits);
+    match remainder {
+        Some(bits) => {
+            spot.number(What::RemainderBits, bits, 0..=REMAINDER_MAX);
         }
-        _ => None,
+        None => spot.push(CodeFault::ShortCode {
+            code_bits,
+            prefix_bits,
+        }),
+    }
+    if spot.number(What::Mode, raw.mode, 0..=1) && raw.mode == 0 {
+        switch(raw, remainder, tables, spot);
+    }
+    Some(Structure {
+        prefix_bits: prefix_bits.into(),
+        prefix: code.reverse_bits(),
+        meaning: match (raw.mode, remainder?) {
+            (0, _) => Meaning::Switch(usize::try_from(raw.base_value).ok()?),
+            (_, 0) => Meaning::Value(raw.base_value),
+            (_, bits) => Meaning::Remainder(bits.into()),
+        },
+    })
+}
+
+/// A switch has no remainder and leads to a table that exists.
+fn switch(raw: &Raw, remainder: Option<u8>, tables: usize, spot: &mut Spot) {
+    if let Some(bits @ 1..) = remainder {
+        spot.push(CodeFault::SwitchRemainder(bits));
+    }
+    let table = raw.base_value;
+    let exists = usize::try_from(table).is_ok_and(|table| (1..=tables).contains(&table));
+    spot.hold(exists, CodeFault::SwitchTo { table, tables });
+}
+
+/// No prefix begins another of its table or equals it.
+fn prefixes(raw: &Raw, before: &[Raw], spot: &mut Spot) {
+    for (at, other) in before.iter().enumerate() {
+        if raw.agrees(other) {
+            spot.push(CodeFault::Prefixes {
+                own: raw.prefix(),
+                place: at + 1,
+                other: other.prefix(),
+            });
+        }
     }
 }
 
-/// Whether each two prefixes differ in a bit that both have.
-fn is_prefix_free(table: &[Structure]) -> bool {
-    table.iter().enumerate().all(|(place, one)| {
-        let mut others = table[place + 1..].iter();
-        others.all(|other| one.differs_within(other.prefix, other.prefix_bits))
-    })
+impl Raw {
+    /// Whether two prefixes are the same within the shorter of the two; not if one has no bits.
+    fn agrees(&self, other: &Raw) -> bool {
+        let shorter = self.prefix_bits.min(other.prefix_bits);
+        let mask = (1u64 << shorter.min(32)) - 1;
+        shorter > 0 && u64::from(self.base_code ^ other.base_code) & mask == 0
+    }
+
+    /// The prefix in the order of the stream.
+    fn prefix(&self) -> String {
+        let bit = |place| match self.base_code >> place & 1 {
+            1 => '1',
+            _ => '0',
+        };
+        (0..self.prefix_bits.min(32)).map(bit).collect()
+    }
 }
 
 impl Structure {
@@ -106,6 +217,11 @@ impl Structure {
     /// Whether a stream that goes on with these bits, so many of them left, starts with the prefix.
     pub fn matches(&self, next: u32, left: usize) -> bool {
         left >= self.prefix_bits as usize && !self.differs_within(next, self.prefix_bits)
+    }
+
+    /// Whether a stream that ends after so many bits more could have gone on with the prefix.
+    pub fn goes_on(&self, next: u32, left: usize) -> bool {
+        left < self.prefix_bits as usize && (left == 0 || !self.differs_within(next, left as u32))
     }
 
     /// The bits of the whole code.
@@ -156,8 +272,13 @@ fn spelled(prefix: &str, meaning: Meaning) -> Structure {
 
 #[cfg(test)]
 mod tests {
-    use super::{default_table, tables, Meaning, Structure};
+    use super::{default_table, tables, Meaning, Structure, Tables};
+    use crate::numbers::Bytes;
     use crate::vectors::{section_2, tables_named};
+
+    fn tables_of(data: &[u8], most_spare: usize) -> Option<Tables> {
+        tables(Bytes::new(data), most_spare).ok()
+    }
 
     #[test]
     fn default_table_is_the_one_written_out() {
@@ -165,7 +286,7 @@ mod tests {
         assert_eq!(table.len(), 19);
         let tables = vec![table];
         assert_eq!(tables_named("default"), tables);
-        assert_eq!(super::tables(&[0x1F, 0x4E], 0), Some(tables));
+        assert_eq!(tables_of(&[0x1F, 0x4E], 0), Some(tables));
     }
 
     #[test]
@@ -196,7 +317,7 @@ mod tests {
 
     #[test]
     fn structures_at_the_edges() {
-        let hold = |structure: [u8; 9]| tables(&one_table(&[structure]), 0).is_some();
+        let hold = |structure: [u8; 9]| tables_of(&one_table(&[structure]), 0).is_some();
         assert!(hold([32, 48, 1, 0, 0, 255, 255, 255, 255]));
         assert!(hold([1, 17, 1, 9, 9, 1, 0, 0, 0]));
         assert!(
@@ -231,8 +352,8 @@ mod tests {
     #[test]
     fn no_prefix_begins_another() {
         let hold = |one: [u8; 9], other: [u8; 9]| {
-            let there = tables(&one_table(&[one, other]), 0).is_some();
-            assert_eq!(there, tables(&one_table(&[other, one]), 0).is_some());
+            let there = tables_of(&one_table(&[one, other]), 0).is_some();
+            assert_eq!(there, tables_of(&one_table(&[other, one]), 0).is_some());
             there
         };
         let one = [2, 2, 1, 0, 0, 1, 0, 0, 0];
@@ -247,7 +368,7 @@ mod tests {
     #[test]
     fn frames() {
         let example = section_2("example");
-        let hold = |data: &[u8], spare| tables(data, spare).is_some();
+        let hold = |data: &[u8], spare| tables_of(data, spare).is_some();
         assert!(hold(&[example.clone(), vec![7]].concat(), 1));
         assert!(!hold(&[example.clone(), vec![7]].concat(), 0));
         assert!(!hold(&[example.clone(), vec![7, 7]].concat(), 1));

@@ -1,5 +1,6 @@
 //! The examples of the tests' data files, for the tests of this crate's modules.
 
+use crate::numbers::Bytes;
 use crate::tables::{tables, Tables};
 
 /// A stream of the data file.
@@ -29,7 +30,7 @@ pub fn section_2(name: &str) -> Vec<u8> {
 
 /// The tables of this name.
 pub fn tables_named(name: &str) -> Tables {
-    tables(&section_2(name), 0).expect("they keep the rules")
+    tables(Bytes::new(&section_2(name)), 0).expect("they keep the rules")
 }
 
 /// All streams of the data file.

@@ -2,10 +2,15 @@
 
 use crate::bounds;
 use crate::check::crc;
-use crate::encoding::{stream, tables_to_write, work_needed};
-use crate::header::fields_hold;
+use crate::differences::differences;
+use crate::encoding::{first_unreached, stream, tables_to_write, work_needed};
+use crate::finding::{self, Finding, Findings, Part, StreamFault, What};
+use crate::header::fields;
+use crate::judging::number;
+use crate::numbers::Bytes;
 use crate::record::{BEFORE_SECTION_0, HEADER, LETTERS, POINTER};
-use crate::rows::Refused;
+use crate::refused::Refused;
+use crate::row;
 use crate::tables::Tables;
 
 /// What is to be written. Each lead has a first sample number, a count of samples and an ID at its
@@ -35,39 +40,71 @@ pub fn write_record(
     work_len: usize,
     out_len: usize,
 ) -> Result<Vec<u8>, Refused> {
-    if !writing.is_within_bounds() {
-        return Err(Refused::untouched(17));
-    }
-    if !fields_hold(writing.section1, 0) {
-        return Err(Refused::untouched(6));
-    }
-    let tables = tables_to_write(writing.section2).map_err(Refused::untouched)?;
+    let tables = writing
+        .tables()
+        .map_err(|found| Refused::untouched(number(&found)))?;
     if work_len < work_needed(&tables, writing.longest()) {
-        return Err(Refused::untouched(11));
+        return Err(Refused::untouched(row::ROOM));
     }
-    writing.record(&tables, out_len).map_err(|number| Refused {
+    let refused = |number| Refused {
         number,
         work_cleared: tables.is_some(),
-    })
+    };
+    let record = writing
+        .record(&tables)
+        .map_err(|found| refused(number(&found)))?;
+    match record.len() <= out_len {
+        true => Ok(record),
+        false => Err(refused(row::ROOM)),
+    }
+}
+
+/// All for which a job is refused, whatever room is lent; nothing if it can be written.
+pub fn job_findings(writing: &Writing) -> Vec<Finding> {
+    let written = writing
+        .tables()
+        .and_then(|tables| writing.record(&tables).map(|_| ()));
+    written.err().unwrap_or_default()
 }
 
 impl Writing<'_> {
+    /// Rows 17, 6 and 7, and the tables.
+    fn tables(&self) -> Result<Option<Tables>, Vec<Finding>> {
+        let found = self.outside_bounds();
+        if !found.is_empty() {
+            return Err(found);
+        }
+        let found = fields(Bytes::new(self.section1), 0);
+        if !found.is_empty() {
+            return Err(found);
+        }
+        tables_to_write(self.section2)
+    }
+
     /// Row 17.
-    fn is_within_bounds(&self) -> bool {
-        let leads = self.ids.len();
-        let last_fits = |(&first, &count): (&u32, &u32)| {
-            u64::from(first) + u64::from(count) - 1 <= u64::from(u32::MAX)
-        };
-        bounds::LEADS.contains(&leads)
-            && self.firsts.len() == leads
-            && self.counts.len() == leads
-            && bounds::ORDERS.contains(&self.order)
-            && self.step != 0
-            && self.interval != 0
-            && self.counts().all(|count| bounds::SAMPLES.contains(&count))
-            && self.firsts.iter().all(|&first| first != 0)
-            && self.firsts.iter().zip(self.counts).all(last_fits)
-            && self.counts().sum::<usize>() == self.samples.len()
+    fn outside_bounds(&self) -> Vec<Finding> {
+        let mut found = Findings::new(row::WRITER_BOUNDS, None);
+        let leads = self.ids.len() as i64;
+        let mut spot = found.of(Part::Whole);
+        spot.number(What::Leads, leads, finding::bounds(&bounds::LEADS));
+        for list in [self.firsts.len(), self.counts.len()] {
+            spot.number(What::ListLength, list as i64, leads..=leads);
+        }
+        spot.number(What::Order, self.order, finding::bounds(&bounds::ORDERS));
+        spot.number(What::Step, self.step, 1..=i64::MAX);
+        spot.number(What::Interval, self.interval, 1..=i64::MAX);
+        for (at, (&first, &count)) in self.firsts.iter().zip(self.counts).enumerate() {
+            let mut spot = found.of(Part::Lead(at + 1));
+            spot.number(What::Samples, count, finding::bounds(&bounds::SAMPLES));
+            spot.number(What::FirstSample, first, 1..=i64::MAX);
+            let last = i64::from(first) + i64::from(count) - 1;
+            spot.number(What::LastSample, last, i64::MIN..=u32::MAX.into());
+        }
+        let sum = self.counts().sum::<usize>() as i64;
+        let lent = self.samples.len() as i64;
+        let mut spot = found.of(Part::Whole);
+        spot.number(What::SamplesLent, lent, sum..=sum);
+        found.list()
     }
 
     fn counts(&self) -> impl Iterator<Item = usize> + '_ {
@@ -78,32 +115,61 @@ impl Writing<'_> {
         self.counts().max().unwrap_or(0)
     }
 
-    /// Rows 15, 16 and 11 for output, and the record.
-    fn record(&self, tables: &Option<Tables>, out_len: usize) -> Result<Vec<u8>, u8> {
-        let streams = self.streams(tables).ok_or(15)?;
-        if streams.iter().any(|stream| stream.len() > bounds::STREAM) {
-            return Err(16);
+    /// Rows 15 and 16, and the record.
+    fn record(&self, tables: &Option<Tables>) -> Result<Vec<u8>, Vec<Finding>> {
+        let streams = self.streams(tables)?;
+        let mut found = Findings::new(row::TOO_LONG, None);
+        for (at, stream) in streams.iter().enumerate() {
+            let (bytes, most) = (stream.len() as i64, bounds::STREAM as i64);
+            let mut spot = found.of(Part::Lead(at + 1));
+            spot.number(What::StreamBytes, bytes, 0..=most);
+        }
+        let found = found.list();
+        if !found.is_empty() {
+            return Err(found);
         }
         let record = self.laid_out(&streams);
-        if record.len() > *bounds::RECORD.end() {
-            return Err(16);
-        }
-        if record.len() > out_len {
-            return Err(11);
-        }
-        Ok(record)
+        let mut found = Findings::new(row::TOO_LONG, None);
+        let (bytes, most) = (record.len() as i64, *bounds::RECORD.end() as i64);
+        let mut spot = found.of(Part::Whole);
+        spot.number(What::RecordBytes, bytes, 0..=most);
+        found.or(Some(record))
     }
 
-    /// Each lead's stream; `None` if some lead has none.
-    fn streams(&self, tables: &Option<Tables>) -> Option<Vec<Vec<u8>>> {
+    /// Each lead's stream, or row 15 for each that has none.
+    fn streams(&self, tables: &Option<Tables>) -> Result<Vec<Vec<u8>>, Vec<Finding>> {
+        let mut found = Findings::new(row::NO_STREAM, None);
+        let mut streams = Vec::new();
         let mut samples = self.samples;
-        self.counts()
-            .map(|count| {
-                let (lead, others) = samples.split_at(count);
-                samples = others;
-                stream(tables.as_ref(), lead, self.order).map(|put| put.bytes())
-            })
-            .collect()
+        for (at, count) in self.counts().enumerate() {
+            let (lead, others) = samples.split_at(count);
+            samples = others;
+            match stream(tables.as_ref(), lead, self.order) {
+                Some(put) => streams.push(put.bytes()),
+                None => self.without_stream(at, lead, tables, &mut found),
+            }
+        }
+        found.or(Some(streams))
+    }
+
+    /// The first sample of a lead that cannot be encoded.
+    fn without_stream(
+        &self,
+        at: usize,
+        samples: &[i16],
+        tables: &Option<Tables>,
+        found: &mut Findings,
+    ) {
+        let differences = differences(self.order, samples);
+        let reached = first_unreached(tables.as_ref(), &differences).unwrap_or(0);
+        let number = u64::from(self.firsts[at]) + reached as u64;
+        let lead = at + 1;
+        found
+            .of(Part::Sample { lead, number })
+            .push(StreamFault::NotEncodable {
+                difference: differences[reached],
+                order: self.order,
+            });
     }
 
     /// One section after another by ID, and a pointer for each ID up to 11.

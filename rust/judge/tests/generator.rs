@@ -2,7 +2,7 @@
 //! table is reached.
 
 use judge::make::{self, Rng};
-use judge::{breaks, encode_lead, lead, open, read_lead, write_record};
+use judge::{breaks, encode_lead, lead, open, read_lead, row, write_record};
 
 /// Room for any lead and any beat.
 const ROOM: usize = 65_536;
@@ -12,7 +12,10 @@ fn sound_records_read_to_what_was_put_in() {
     for seed in 0..10_000 {
         let made = make::made(&mut Rng::new(seed));
         assert!(open(&made.record).is_ok(), "seed {seed}");
-        assert!(!(1..=9).any(|row| breaks(&made.record, row)), "seed {seed}");
+        assert!(
+            !(row::LENGTH..=row::AGREEMENT).any(|row| breaks(&made.record, row)),
+            "seed {seed}"
+        );
         for (at, lead) in made.leads.iter().enumerate() {
             let read = read_lead(&made.record, at + 1, lead.samples.len(), made.work);
             let read = read.unwrap_or_else(|refused| panic!("seed {seed}, lead {at}: {refused:?}"));
@@ -24,7 +27,7 @@ fn sound_records_read_to_what_was_put_in() {
                 (made.flags, made.flags & 1 == 1)
             );
         }
-        assert_eq!(lead(&made.record, made.leads.len() + 1), Err(10));
+        assert_eq!(lead(&made.record, made.leads.len() + 1), Err(row::ABSENT));
     }
 }
 

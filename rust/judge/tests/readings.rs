@@ -1,7 +1,7 @@
 //! Single rules, one record each, where a number is easily taken for another.
 
 use judge::make::{mend, mend_size};
-use judge::{field, lead, open, read_lead};
+use judge::{field, lead, open, read_lead, row};
 
 /// Sections with their data, laid one after another behind twelve pointers.
 #[derive(Clone)]
@@ -183,46 +183,67 @@ fn section_2_is_judged_before_leads_and_never_by_opening() {
             let bytes = record.with(2, data).bytes();
             assert_eq!(opened(&bytes), 0);
             assert!(field(&bytes, 2, 1).is_ok());
-            assert_eq!(lead(&bytes, 0), Err(7));
+            assert_eq!(lead(&bytes, 0), Err(row::SECTION_2));
         }
     }
     assert_eq!(
         Record::plain().changed(6, 4, 3).with(2, &[0, 0]).read(1),
-        Err(7)
+        Err(row::SECTION_2)
     );
 }
 
 #[test]
 fn all_leads_are_judged_before_the_place() {
     let broken = Record::plain().changed(3, 2 + 9, 0);
-    assert_eq!(broken.read(1), Err(8));
-    assert_eq!(Record::plain().changed(6, 4, 3).read(0), Err(8));
-    assert_eq!(Record::plain().changed(6, 6, 7).read(3), Err(8));
-    assert_eq!(Record::plain().read(0), Err(10));
-    assert_eq!(Record::plain().read(3), Err(10));
+    assert_eq!(broken.read(1), Err(row::SECTIONS_3_TO_6));
+    assert_eq!(
+        Record::plain().changed(6, 4, 3).read(0),
+        Err(row::SECTIONS_3_TO_6)
+    );
+    assert_eq!(
+        Record::plain().changed(6, 6, 7).read(3),
+        Err(row::SECTIONS_3_TO_6)
+    );
+    assert_eq!(Record::plain().read(0), Err(row::ABSENT));
+    assert_eq!(Record::plain().read(3), Err(row::ABSENT));
 }
 
 #[test]
 fn absent_sections_3_and_6() {
-    assert_eq!(Record::plain().without(3).without(6).read(1), Err(10));
-    assert_eq!(Record::plain().without(3).read(1), Err(8));
-    assert_eq!(Record::plain().without(6).read(1), Err(10));
-    assert_eq!(Record::plain().without(6).changed(3, 0, 0).read(1), Err(8));
+    assert_eq!(
+        Record::plain().without(3).without(6).read(1),
+        Err(row::ABSENT)
+    );
+    assert_eq!(
+        Record::plain().without(3).read(1),
+        Err(row::SECTIONS_3_TO_6)
+    );
+    assert_eq!(Record::plain().without(6).read(1), Err(row::ABSENT));
+    assert_eq!(
+        Record::plain().without(6).changed(3, 0, 0).read(1),
+        Err(row::SECTIONS_3_TO_6)
+    );
     assert_eq!(
         Record::beaten()
             .without(3)
             .without(6)
             .changed(4, 2, 0)
             .read(1),
-        Err(10)
+        Err(row::ABSENT)
     );
 }
 
 #[test]
 fn sections_4_and_5_are_needed_with_bit_0() {
     for section in [4, 5] {
-        assert_eq!(Record::beaten().without(section).read(1), Err(8));
-        assert_eq!(Record::beaten().without(section).without(6).read(1), Err(8));
+        assert_eq!(
+            Record::beaten().without(section).read(1),
+            Err(row::SECTIONS_3_TO_6)
+        );
+        assert_eq!(
+            Record::beaten().without(section).without(6).read(1),
+            Err(row::SECTIONS_3_TO_6)
+        );
         let unjudged = Record::beaten().changed(3, 1, 0xFE);
         assert_eq!(unjudged.clone().without(section).read(1), Ok(vec![1, 2, 3]));
         assert_eq!(
@@ -230,30 +251,63 @@ fn sections_4_and_5_are_needed_with_bit_0() {
             Ok(vec![1, 2, 3])
         );
     }
-    assert_eq!(Record::beaten().without(6).read(1), Err(10));
-    assert_eq!(Record::beaten().without(6).changed(4, 2, 3).read(1), Err(8));
+    assert_eq!(Record::beaten().without(6).read(1), Err(row::ABSENT));
+    assert_eq!(
+        Record::beaten().without(6).changed(4, 2, 3).read(1),
+        Err(row::SECTIONS_3_TO_6)
+    );
 }
 
 #[test]
 fn bimodal_steps_and_intervals() {
-    assert_eq!(Record::plain().changed(6, 5, 1).read(1), Err(9));
-    assert_eq!(Record::plain().changed(6, 5, 1).read(0), Err(9));
-    assert_eq!(Record::plain().changed(6, 5, 2).read(1), Err(8));
+    assert_eq!(
+        Record::plain().changed(6, 5, 1).read(1),
+        Err(row::AGREEMENT)
+    );
+    assert_eq!(
+        Record::plain().changed(6, 5, 1).read(0),
+        Err(row::AGREEMENT)
+    );
+    assert_eq!(
+        Record::plain().changed(6, 5, 2).read(1),
+        Err(row::SECTIONS_3_TO_6)
+    );
     assert_eq!(
         Record::plain().changed(6, 5, 1).changed(6, 4, 3).read(1),
-        Err(8)
+        Err(row::SECTIONS_3_TO_6)
     );
-    assert_eq!(Record::beaten().changed(6, 0, 0).read(1), Err(9));
-    assert_eq!(Record::beaten().changed(6, 2, 0).read(1), Err(9));
-    assert_eq!(Record::beaten().changed(5, 0, 0).read(1), Err(9));
+    assert_eq!(
+        Record::beaten().changed(6, 0, 0).read(1),
+        Err(row::AGREEMENT)
+    );
+    assert_eq!(
+        Record::beaten().changed(6, 2, 0).read(1),
+        Err(row::AGREEMENT)
+    );
+    assert_eq!(
+        Record::beaten().changed(5, 0, 0).read(1),
+        Err(row::AGREEMENT)
+    );
 }
 
 #[test]
 fn the_beat_has_1_to_65_536_samples() {
-    assert_eq!(Record::beaten().changed(4, 0, 0).read(1), Err(8));
-    assert_eq!(Record::beaten().changed(4, 0, 1).read(1), Err(8));
-    assert_eq!(Record::beaten().changed(4, 2, 0).read(1), Err(8));
-    assert_eq!(Record::beaten().changed(4, 2, 3).read(1), Err(8));
+    assert_eq!(
+        Record::beaten().changed(4, 0, 0).read(1),
+        Err(row::SECTIONS_3_TO_6)
+    );
+    assert_eq!(
+        Record::beaten().changed(4, 0, 1).read(1),
+        Err(row::SECTIONS_3_TO_6)
+    );
+    assert_eq!(
+        Record::beaten().changed(4, 2, 0).read(1),
+        Err(row::SECTIONS_3_TO_6)
+    );
+    assert_eq!(
+        Record::beaten().changed(4, 2, 3).read(1),
+        Err(row::SECTIONS_3_TO_6)
+    );
 }
 
 #[test]
@@ -294,7 +348,7 @@ fn another_leads_stream_is_not_met() {
     let mut record = Record::plain();
     record.data(6)[6] = 4;
     record.data(6).drain(10..12);
-    assert_eq!(record.read(1), Err(12));
+    assert_eq!(record.read(1), Err(row::CODE));
     assert_eq!(record.read(2), Ok(vec![1, 2, 3]));
 }
 
@@ -304,11 +358,11 @@ fn bits_left_over() {
     record.data(6)[6] = 7;
     record.data(6).insert(16, 0);
     record.data(6).push(0);
-    assert_eq!(record.read(1), Err(14));
+    assert_eq!(record.read(1), Err(row::LEFT_OVER_BITS));
     assert_eq!(record.read(2), Ok(vec![1, 2, 3]));
     record.data(6)[6] = 5;
     record.data(6).drain(15..17);
-    assert_eq!(record.read(1), Err(12));
+    assert_eq!(record.read(1), Err(row::CODE));
 }
 
 #[test]
@@ -319,21 +373,21 @@ fn the_beat_is_read_first_and_whole() {
     left_over.data(5)[6] = 5;
     left_over.data(5).insert(14, 0);
     left_over.data(5).push(0);
-    assert_eq!(left_over.read(1), Err(14));
+    assert_eq!(left_over.read(1), Err(row::LEFT_OVER_BITS));
     left_over.data(6)[6] = 0;
     left_over.data(6).drain(10..16);
-    assert_eq!(left_over.read(1), Err(14));
+    assert_eq!(left_over.read(1), Err(row::LEFT_OVER_BITS));
 }
 
 #[test]
 fn residuals_and_sums_have_16_bits_of_their_own() {
     let mut sum = Record::beaten();
     sum.data(6)[12..14].copy_from_slice(&32_758i16.to_le_bytes());
-    assert_eq!(sum.read(1), Err(13));
+    assert_eq!(sum.read(1), Err(row::SAMPLE));
     sum.data(6)[12..14].copy_from_slice(&32_757i16.to_le_bytes());
     assert_eq!(sum.read(1), Ok(vec![1, 32_767, 23]));
     let mut residual = Record::beaten().changed(6, 4, 1);
     residual.data(5)[10..12].copy_from_slice(&(-9i16).to_le_bytes());
     residual.data(6)[12..14].copy_from_slice(&32_767i16.to_le_bytes());
-    assert_eq!(residual.read(1), Err(13));
+    assert_eq!(residual.read(1), Err(row::SAMPLE));
 }

@@ -1,6 +1,6 @@
 //! Whole records: opened, read, and written again byte for byte.
 
-use judge::{field, lead, open, read_lead, write_record, Refused, Writing};
+use judge::{field, lead, open, read_lead, row, write_record, Refused, Writing};
 
 /// A record of the data file.
 #[derive(Default)]
@@ -103,7 +103,7 @@ fn they_open_and_show_their_identifier() {
         assert_eq!(pointers.len(), 12);
         let place = field(&record.bytes, 2, 1).expect(&record.name);
         assert_eq!(record.bytes[place], record.identifier, "{}", record.name);
-        assert_eq!(field(&record.bytes, 2, 2), Err(10));
+        assert_eq!(field(&record.bytes, 2, 2), Err(row::ABSENT));
     }
 }
 
@@ -124,15 +124,15 @@ fn their_leads_read() {
             assert_eq!((entry.last - entry.first + 1) as usize, count);
         }
         let beyond = record.leads.len() + 1;
-        assert_eq!(lead(&record.bytes, beyond), Err(10));
-        assert_eq!(lead(&record.bytes, 0), Err(10));
+        assert_eq!(lead(&record.bytes, beyond), Err(row::ABSENT));
+        assert_eq!(lead(&record.bytes, 0), Err(row::ABSENT));
     }
 }
 
 #[test]
 fn too_little_room_is_11_and_leaves_work_space_untouched() {
     let refused = Err(Refused {
-        number: 11,
+        number: row::ROOM,
         work_cleared: false,
     });
     for record in known() {
@@ -152,53 +152,49 @@ fn too_little_room_is_11_and_leaves_work_space_untouched() {
     }
 }
 
+/// A known record as it is written, with room for so many bytes.
+fn written(record: &Known, out_len: usize) -> Result<Vec<u8>, Refused> {
+    let section1 = record.data(1, record.identifier.len() % 2);
+    let each = |of: fn(&KnownLead) -> u32| record.leads.iter().map(of).collect::<Vec<_>>();
+    let ids: Vec<u8> = record.leads.iter().map(|lead| lead.id).collect();
+    let samples = record.leads.iter().flat_map(|lead| &lead.samples);
+    let samples: Vec<i16> = samples.copied().collect();
+    let writing = Writing {
+        section1: &section1,
+        section2: &section_2(record),
+        version: 13,
+        flags: record.flags,
+        step: record.step,
+        interval: record.interval,
+        order: record.order,
+        firsts: &each(|lead| lead.first),
+        counts: &each(|lead| lead.samples.len() as u32),
+        ids: &ids,
+        samples: &samples,
+    };
+    write_record(&writing, 1_000, out_len)
+}
+
+/// The data of Section 2; none if it is absent.
+fn section_2(record: &Known) -> Vec<u8> {
+    match open(&record.bytes).expect("it opens")[2].length {
+        0 => Vec::new(),
+        _ => record.data(2, 0),
+    }
+}
+
 #[test]
 fn written_ones_come_out_byte_for_byte() {
-    let mut written = 0;
+    let mut count = 0;
     for record in known().iter().filter(|record| record.written) {
-        let spare = record.identifier.len() % 2;
-        let section1 = record.data(1, spare);
-        let section2 = match open(&record.bytes).expect("it opens")[2].length {
-            0 => Vec::new(),
-            _ => record.data(2, 0),
-        };
-        let samples: Vec<i16> = record
-            .leads
-            .iter()
-            .flat_map(|lead| lead.samples.clone())
-            .collect();
-        let firsts: Vec<u32> = record.leads.iter().map(|lead| lead.first).collect();
-        let counts: Vec<u32> = record
-            .leads
-            .iter()
-            .map(|lead| lead.samples.len() as u32)
-            .collect();
-        let ids: Vec<u8> = record.leads.iter().map(|lead| lead.id).collect();
-        let writing = Writing {
-            section1: &section1,
-            section2: &section2,
-            version: 13,
-            flags: record.flags,
-            step: record.step,
-            interval: record.interval,
-            order: record.order,
-            firsts: &firsts,
-            counts: &counts,
-            ids: &ids,
-            samples: &samples,
-        };
-        let bytes = write_record(&writing, 1_000, record.bytes.len());
+        let bytes = written(record, record.bytes.len());
         assert_eq!(bytes.as_ref(), Ok(&record.bytes), "{}", record.name);
-        let short = write_record(&writing, 1_000, record.bytes.len() - 1);
-        let cleared = !section2.is_empty();
-        assert_eq!(
-            short,
-            Err(Refused {
-                number: 11,
-                work_cleared: cleared
-            })
-        );
-        written += 1;
+        let short = Refused {
+            number: row::ROOM,
+            work_cleared: !section_2(record).is_empty(),
+        };
+        assert_eq!(written(record, record.bytes.len() - 1), Err(short));
+        count += 1;
     }
-    assert_eq!(written, 3);
+    assert_eq!(count, 3);
 }

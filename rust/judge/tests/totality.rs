@@ -1,7 +1,7 @@
 //! No bytes and no numbers stop a call from ending, and calls agree with each other.
 
 use judge::make::{self, Rng};
-use judge::{breaks, field, lead, open, read_lead, walk_start, walk_step};
+use judge::{breaks, field, lead, open, read_lead, row, walk_start, walk_step};
 
 /// Every call on these bytes.
 fn call_all(rng: &mut Rng, bytes: &[u8]) {
@@ -23,7 +23,7 @@ fn call_all(rng: &mut Rng, bytes: &[u8]) {
                 assert!(entry.first <= entry.last && place <= entry.leads as usize);
                 let count = (entry.last - entry.first) as usize;
                 let short = read_lead(bytes, place, count, 70_000);
-                assert_eq!(short.map_err(|refused| refused.number), Err(11));
+                assert_eq!(short.map_err(|refused| refused.number), Err(row::ROOM));
             }
         }
     }
@@ -92,9 +92,12 @@ fn the_walk_meets_what_fields_show() {
             at = step.next;
         }
         for tag in 0..=255 {
-            assert_eq!(field(&record, tag, met[usize::from(tag)] + 1), Err(10));
-            assert_eq!(field(&record, tag, 0), Err(10));
-            assert_eq!(field(&record, tag, usize::MAX), Err(10));
+            assert_eq!(
+                field(&record, tag, met[usize::from(tag)] + 1),
+                Err(row::ABSENT)
+            );
+            assert_eq!(field(&record, tag, 0), Err(row::ABSENT));
+            assert_eq!(field(&record, tag, usize::MAX), Err(row::ABSENT));
         }
         assert_eq!(met[255], 0);
     }

@@ -2,7 +2,7 @@
 //! in its turn.
 
 use judge::make::{self, Rng, ToWrite};
-use judge::{encode_lead, field, lead, open, read_lead, walk_start, write_record, Refused};
+use judge::{encode_lead, field, lead, open, read_lead, row, walk_start, write_record, Refused};
 
 /// Room for anything.
 const ROOM: usize = 10_000_000;
@@ -119,7 +119,7 @@ fn the_call_is_sound() {
     assert_eq!(record.len() % 2, 0);
     assert!(field(&record, 14, 1).expect("tag 14").is_empty());
     let short = write_record(&call.writing(), 3, record.len() - 1);
-    assert_eq!(short.map_err(|refused| refused.number), Err(11));
+    assert_eq!(short.map_err(|refused| refused.number), Err(row::ROOM));
 }
 
 #[test]
@@ -141,15 +141,15 @@ fn row_17_comes_first() {
         |call| (call.firsts, call.counts, call.ids) = (Vec::new(), Vec::new(), Vec::new()),
     ];
     for fault in faults {
-        refuses(17, false, fault);
-        refuses(17, false, |call| {
+        refuses(row::WRITER_BOUNDS, false, fault);
+        refuses(row::WRITER_BOUNDS, false, |call| {
             fault(call);
             call.section1.clear();
             call.section2.push(0);
             (call.work_len, call.out_len) = (0, 0);
         });
     }
-    refuses(17, false, |call| {
+    refuses(row::WRITER_BOUNDS, false, |call| {
         call.firsts = vec![1; 33];
         call.counts = vec![1; 33];
         call.ids = vec![1; 33];
@@ -159,16 +159,16 @@ fn row_17_comes_first() {
 
 #[test]
 fn then_6_7_and_11_for_work_space() {
-    refuses(6, false, |call| call.section1.push(0));
-    refuses(6, false, |call| {
+    refuses(row::SECTION_1, false, |call| call.section1.push(0));
+    refuses(row::SECTION_1, false, |call| {
         call.section1.truncate(21);
         call.section2 = vec![1];
     });
-    refuses(7, false, |call| {
+    refuses(row::SECTION_2, false, |call| {
         call.section2.push(0);
         call.work_len = 0;
     });
-    refuses(11, false, |call| {
+    refuses(row::ROOM, false, |call| {
         call.work_len = 2;
         call.samples[0] = -32_768;
         call.samples[1] = 32_767;
@@ -182,30 +182,30 @@ fn then_15_for_all_leads_16_and_11_for_output() {
         call.samples[at..at + 3].copy_from_slice(&[-32_768, 32_767, -32_768]);
         call.out_len = 0;
     };
-    refuses(15, true, |call| too_wide(call, 0));
-    refuses(15, false, |call| {
+    refuses(row::NO_STREAM, true, |call| too_wide(call, 0));
+    refuses(row::NO_STREAM, false, |call| {
         too_wide(call, 0);
         call.section2.clear();
         call.work_len = 0;
     });
-    refuses(15, false, |call| {
+    refuses(row::NO_STREAM, false, |call| {
         call.section2.clear();
         call.firsts = vec![1, 1];
         call.counts = vec![40_000, 3];
         call.samples = vec![0; 40_003];
         too_wide(call, 40_000);
     });
-    refuses(16, false, |call| {
+    refuses(row::TOO_LONG, false, |call| {
         call.section2.clear();
         call.firsts = vec![1, 1];
         call.counts = vec![32_768, 3];
         call.samples = vec![0; 32_771];
         call.out_len = 0;
     });
-    refuses(16, true, |call| {
+    refuses(row::TOO_LONG, true, |call| {
         let long = [vec![9, 255, 255], vec![7; 65_535]].concat();
         call.section1.splice(0..0, long.repeat(16));
         call.out_len = 0;
     });
-    refuses(11, true, |call| call.out_len = 0);
+    refuses(row::ROOM, true, |call| call.out_len = 0);
 }

@@ -78,5 +78,5 @@ pub use fields::{
 };
 pub use leads::{lead, leads, read_lead, samples, Entry, Lead, LEADS_MAX, SAMPLES_MAX};
 pub use record::{breaks, crc, open, Pointer, RECORD_MAX};
-pub use refusal::{NoRefusal, Refusal};
+pub use refusal::{Given, NoRefusal, Refusal};
 pub use writing::{write_record, written, Job};

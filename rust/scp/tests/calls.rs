@@ -55,15 +55,11 @@ fn a_walk_stays_at_its_end() {
 
 #[test]
 fn refusals_have_a_number_and_words() {
-    let number = |answer: Result<_, Refusal>| {
-        answer
-            .map(|_: std::ops::Range<usize>| ())
-            .map_err(Refusal::number)
-    };
     let record = record();
-    assert_eq!(number(scp::field(&record, 2, 0)), Err(10));
-    assert_eq!(number(scp::field(&record, 255, 1)), Err(10));
-    assert_eq!(number(scp::walk_start(&record[1..])), Err(1));
+    let absent = Err(Refusal::ABSENT);
+    assert_eq!(scp::field(&record, 2, 0), absent);
+    assert_eq!(scp::field(&record, 255, 1), absent);
+    assert_eq!(scp::walk_start(&record[1..]), Err(Refusal::LENGTH));
     let refusal = scp::open(&[]).unwrap_err();
     assert_eq!(
         refusal.to_string(),
@@ -115,7 +111,7 @@ fn a_lead_is_read_into_the_room_lent() {
     assert_eq!(work, [5; 3], "no beat was subtracted");
     assert!(!lead.had_beat_subtracted());
     let refusal = scp::read_lead(&record, 1, &mut out[..7], &mut []).unwrap_err();
-    assert_eq!(refusal.number(), 11);
+    assert_eq!(refusal, Refusal::ROOM);
     assert_eq!(out[..2], [10, 12]);
 }
 
@@ -124,7 +120,7 @@ fn work_space_is_zeros_once_a_beat_is_read() {
     let record = sample("beat.scp");
     let (mut out, mut work) = ([0; 40], [5; 9]);
     let short = scp::read_lead(&record, 1, &mut out, &mut work[..7]);
-    assert_eq!(short.map_err(Refusal::number), Err(11));
+    assert_eq!(short.err(), Some(Refusal::ROOM));
     assert_eq!((work, out), ([5; 9], [0; 40]));
     let lead = scp::read_lead(&record, 1, &mut out, &mut work).unwrap();
     assert!(lead.had_beat_subtracted());
@@ -134,7 +130,7 @@ fn work_space_is_zeros_once_a_beat_is_read() {
     let record = sample("refused-13.scp");
     let (mut out, mut work) = ([7; 40], [5; 9]);
     let refused = scp::read_lead(&record, 2, &mut out, &mut work);
-    assert_eq!(refused.map_err(Refusal::number), Err(13));
+    assert_eq!(refused.err(), Some(Refusal::SAMPLE));
     assert_eq!((work, out), ([0; 9], [7; 40]));
 }
 
@@ -158,7 +154,7 @@ fn entries_say_what_reading_finds() {
             assert_eq!(scp::lead(&record, place), Ok(*entry));
         }
         let past = scp::samples(&record, leads.len() + 1);
-        assert_eq!(past.map_err(Refusal::number), Err(10));
+        assert_eq!(past.err(), Some(Refusal::ABSENT));
     }
     let six = scp::lead(&sample("limb-leads.scp"), 6).unwrap();
     let expected = Entry {
@@ -261,7 +257,7 @@ fn no_stream_reads_to_a_difference_outside_16_bits() {
     ] {
         let (mut work, mut out) = ([5; 6], [77; 9]);
         let refused = scp::encode_lead(&section2, &samples, 2, &mut work, &mut out);
-        assert_eq!(refused.map_err(Refusal::number), Err(15));
+        assert_eq!(refused.err(), Some(Refusal::NO_STREAM));
         assert_eq!((work, out), ([left; 6], [77; 9]));
     }
 }
@@ -274,37 +270,49 @@ fn encoding_is_refused_in_its_order() {
         assert!(out.iter().all(|&byte| byte == 77), "nothing is shown");
         let cleared = !work.is_empty() && work.iter().all(|&byte| byte == 0);
         assert!(cleared || work.iter().all(|&byte| byte == 5));
-        (refused.unwrap_err().number(), cleared)
+        (refused.unwrap_err(), cleared)
     };
     let spare = [&DEFAULT_TABLE[..], &[0]].concat();
-    assert_eq!(refused(&[9], 0, 0, 0, 0), (17, false));
-    assert_eq!(refused(&[9], 65_537, 0, 0, 0), (17, false));
-    assert_eq!(refused(&[9], 1, 3, 0, 0), (17, false));
-    assert_eq!(refused(&[9], 1, 2, 0, 0), (7, false));
-    assert_eq!(refused(&spare, 1, 2, 1, 9), (7, false));
-    assert_eq!(refused(&DEFAULT_TABLE, 5, 0, 4, 99), (11, false));
-    assert_eq!(refused(&example_tables(), 5, 0, 9, 99), (11, false));
-    assert_eq!(refused(&example_tables(), 5, 0, 10, 0), (15, true));
-    assert_eq!(refused(&DEFAULT_TABLE, 20_165, 0, 20_165, 0), (16, true));
+    assert_eq!(refused(&[9], 0, 0, 0, 0), (Refusal::WRITER_BOUNDS, false));
+    assert_eq!(
+        refused(&[9], 65_537, 0, 0, 0),
+        (Refusal::WRITER_BOUNDS, false)
+    );
+    assert_eq!(refused(&[9], 1, 3, 0, 0), (Refusal::WRITER_BOUNDS, false));
+    assert_eq!(refused(&[9], 1, 2, 0, 0), (Refusal::SECTION_2, false));
+    assert_eq!(refused(&spare, 1, 2, 1, 9), (Refusal::SECTION_2, false));
+    assert_eq!(refused(&DEFAULT_TABLE, 5, 0, 4, 99), (Refusal::ROOM, false));
+    assert_eq!(
+        refused(&example_tables(), 5, 0, 9, 99),
+        (Refusal::ROOM, false)
+    );
+    assert_eq!(
+        refused(&example_tables(), 5, 0, 10, 0),
+        (Refusal::NO_STREAM, true)
+    );
+    assert_eq!(
+        refused(&DEFAULT_TABLE, 20_165, 0, 20_165, 0),
+        (Refusal::TOO_LONG, true)
+    );
     assert_eq!(
         refused(&DEFAULT_TABLE, 20_164, 0, 20_164, 65_532),
-        (11, true)
+        (Refusal::ROOM, true)
     );
-    assert_eq!(refused(&[], 32_768, 0, 1, 0), (16, false));
-    assert_eq!(refused(&[], 32_767, 0, 1, 65_533), (11, false));
+    assert_eq!(refused(&[], 32_768, 0, 1, 0), (Refusal::TOO_LONG, false));
+    assert_eq!(refused(&[], 32_767, 0, 1, 65_533), (Refusal::ROOM, false));
 }
 
 #[test]
 fn room_is_made_for_a_stream() {
-    let number = |section2: &[u8], samples: &[i16], order| {
-        scp::shortest(section2, samples, order).map_or_else(Refusal::number, |_| 0)
-    };
-    assert_eq!(number(&DEFAULT_TABLE, &[], 0), 17);
-    assert_eq!(number(&DEFAULT_TABLE, &vec![0; 65_537], 0), 17);
-    assert_eq!(number(&DEFAULT_TABLE, &vec![0; 65_536], 0), 0);
-    assert_eq!(number(&[], &vec![0; 32_767], 0), 0);
-    assert_eq!(number(&[], &vec![0; 32_768], 0), 16);
-    assert_eq!(number(&[1], &[0], 0), 7);
+    let refused =
+        |section2: &[u8], samples: &[i16], order| scp::shortest(section2, samples, order).err();
+    let bounds = Some(Refusal::WRITER_BOUNDS);
+    assert_eq!(refused(&DEFAULT_TABLE, &[], 0), bounds);
+    assert_eq!(refused(&DEFAULT_TABLE, &vec![0; 65_537], 0), bounds);
+    assert_eq!(refused(&DEFAULT_TABLE, &vec![0; 65_536], 0), None);
+    assert_eq!(refused(&[], &vec![0; 32_767], 0), None);
+    assert_eq!(refused(&[], &vec![0; 32_768], 0), Some(Refusal::TOO_LONG));
+    assert_eq!(refused(&[1], &[0], 0), Some(Refusal::SECTION_2));
 }
 
 // ---- writing
@@ -331,13 +339,13 @@ const JOB: Job = Job {
 };
 
 /// The refusal of a job with this room, and whether the work space was cleared. Nothing else is changed.
-fn refused(job: Job, work: usize, out: usize) -> (u8, bool) {
+fn refused(job: Job, work: usize, out: usize) -> (Refusal, bool) {
     let (mut work, mut out) = (vec![5; work], vec![77; out]);
     let refused = scp::write_record(&job, &mut work, &mut out);
     assert!(out.iter().all(|&byte| byte == 77), "nothing is shown");
     let cleared = !work.is_empty() && work.iter().all(|&byte| byte == 0);
     assert!(cleared || work.iter().all(|&byte| byte == 5));
-    (refused.unwrap_err().number(), cleared)
+    (refused.unwrap_err(), cleared)
 }
 
 #[test]
@@ -390,23 +398,17 @@ fn what_is_written_is_read_back() {
 }
 
 #[test]
-fn writing_is_refused_in_its_order() {
+fn a_job_is_judged_before_its_samples() {
     let spare = [&FIELDS[..], &[0]].concat();
-    let long = [&[9, 255, 255][..], &[7; 65_535]].concat().repeat(16);
-    let long = [&long[..], &FIELDS].concat();
-    let wide = Job {
-        firsts: &[1],
-        counts: &[3],
-        ids: &[1],
-        samples: &[-32768, 32767, -32768],
-        ..JOB
-    };
     let broken = Job {
         section1: &spare,
         section2: &[1],
         ..JOB
     };
-    assert_eq!(refused(Job { order: 3, ..broken }, 0, 0), (17, false));
+    assert_eq!(
+        refused(Job { order: 3, ..broken }, 0, 0),
+        (Refusal::WRITER_BOUNDS, false)
+    );
     assert_eq!(
         refused(
             Job {
@@ -416,26 +418,51 @@ fn writing_is_refused_in_its_order() {
             0,
             0
         ),
-        (17, false)
+        (Refusal::WRITER_BOUNDS, false)
     );
-    assert_eq!(refused(broken, 0, 0), (6, false));
+    assert_eq!(refused(broken, 0, 0), (Refusal::SECTION_1, false));
     let section1 = &FIELDS[..];
-    assert_eq!(refused(Job { section1, ..broken }, 0, 0), (7, false));
-    assert_eq!(refused(wide, 2, 0), (11, false));
-    assert_eq!(refused(wide, 3, 0), (15, true));
+    assert_eq!(
+        refused(Job { section1, ..broken }, 0, 0),
+        (Refusal::SECTION_2, false)
+    );
+}
+
+#[test]
+fn writing_is_refused_in_its_order() {
+    let long = [&[9, 255, 255][..], &[7; 65_535]].concat().repeat(16);
+    let long = [&long[..], &FIELDS].concat();
+    let wide = Job {
+        firsts: &[1],
+        counts: &[3],
+        ids: &[1],
+        samples: &[-32768, 32767, -32768],
+        ..JOB
+    };
+    assert_eq!(refused(wide, 2, 0), (Refusal::ROOM, false));
+    assert_eq!(refused(wide, 3, 0), (Refusal::NO_STREAM, true));
     let section2 = &[][..];
-    assert_eq!(refused(Job { section2, ..wide }, 3, 0), (15, false));
+    assert_eq!(
+        refused(Job { section2, ..wide }, 3, 0),
+        (Refusal::NO_STREAM, false)
+    );
     let section1 = &long;
-    assert_eq!(refused(Job { section1, ..JOB }, 7, 0), (16, true));
-    assert_eq!(refused(JOB, 6, 999), (11, false));
-    assert_eq!(refused(JOB, 7, 275), (11, true));
-    assert_eq!(refused(Job { section2, ..JOB }, 1, 263), (11, false));
+    assert_eq!(
+        refused(Job { section1, ..JOB }, 7, 0),
+        (Refusal::TOO_LONG, true)
+    );
+    assert_eq!(refused(JOB, 6, 999), (Refusal::ROOM, false));
+    assert_eq!(refused(JOB, 7, 275), (Refusal::ROOM, true));
+    assert_eq!(
+        refused(Job { section2, ..JOB }, 1, 263),
+        (Refusal::ROOM, false)
+    );
 }
 
 #[test]
 fn room_is_made_for_a_record() {
-    let number = |job: Job| scp::written(&job).map_or_else(Refusal::number, |_| 0);
-    assert_eq!((JOB.work_room(), number(JOB)), (7 * 8, 0));
+    let refused = |job: Job| scp::written(&job).err();
+    assert_eq!((JOB.work_room(), refused(JOB)), (7 * 8, None));
     let samples = vec![0; 65_536];
     let longest = Job {
         firsts: &[1],
@@ -444,14 +471,18 @@ fn room_is_made_for_a_record() {
         samples: &samples,
         ..JOB
     };
-    assert_eq!(number(longest), 0);
+    assert_eq!(refused(longest), None);
     let plain = Job {
         section2: &[],
         ..longest
     };
-    assert_eq!((plain.work_room(), number(plain)), (0, 16));
+    assert_eq!(
+        (plain.work_room(), refused(plain)),
+        (0, Some(Refusal::TOO_LONG))
+    );
     let counts = &[u32::MAX];
-    assert_eq!(number(Job { counts, ..longest }), 17);
+    let bounds = Some(Refusal::WRITER_BOUNDS);
+    assert_eq!(refused(Job { counts, ..longest }), bounds);
     let none = Job {
         firsts: &[],
         counts: &[],
@@ -459,5 +490,22 @@ fn room_is_made_for_a_record() {
         samples: &[],
         ..JOB
     };
-    assert_eq!((none.work_room(), number(none)), (0, 17));
+    assert_eq!((none.work_room(), refused(none)), (0, bounds));
+}
+
+/// The C header has the table's numbers under their names, and no other.
+#[test]
+fn the_header_names_every_refusal() {
+    let header = include_str!("../../include/scp.h");
+    let named: Vec<(&str, u8)> = header
+        .lines()
+        .filter_map(|line| line.trim().strip_prefix("SCP_REFUSED_")?.split_once(" = "))
+        .map(|(id, rest)| {
+            let end = rest.find(|letter: char| !letter.is_ascii_digit());
+            let number = &rest[..end.unwrap_or(rest.len())];
+            (id, number.parse().expect("a number"))
+        })
+        .collect();
+    let table: Vec<_> = Refusal::all().map(|one| (one.id(), one.number())).collect();
+    assert_eq!(named, table);
 }

@@ -314,7 +314,7 @@ pub enum Command {
 fn refusal(text: &str) -> Result<Refusal, String> {
     let number = text.parse::<u8>().ok();
     let refusal = number.and_then(|number| Refusal::try_from(number).ok());
-    refusal.ok_or_else(|| format!("refusals are numbered 1 to {}", Refusal::COUNT))
+    refusal.ok_or_else(|| "no refusal has this number".to_string())
 }
 
 /// How many files are checked at once.

@@ -9,12 +9,8 @@ use crate::commands::leads::how_many;
 use crate::input::Size;
 use crate::json;
 
-/// The largest number that refuses all leads alike.
-const OF_ALL: u8 = 10;
-
-/// The refusals of a lead that is not there, and of room that is too short.
-const ABSENT: u8 = 10;
-const ROOM: u8 = 11;
+/// The last refusal that all leads have alike.
+const OF_ALL: Refusal = Refusal::ABSENT;
 
 /// So many samples most beats have at most.
 const MOST_BEATS: usize = 2048;
@@ -65,7 +61,7 @@ impl Room {
         let mut read =
             |work: &mut [i16]| scp::read_lead(record, place, &mut self.out, work).map(|_| ());
         match read(&mut self.work[..MOST_BEATS]) {
-            Err(refusal) if refusal.number() == ROOM => read(&mut self.work),
+            Err(Refusal::ROOM) => read(&mut self.work),
             answer => answer,
         }
     }
@@ -77,7 +73,7 @@ impl Verdict {
     pub fn of(record: &[u8], room: &mut Room) -> Verdict {
         let leads = match scp::lead(record, 1) {
             Ok(entry) => entry.leads,
-            Err(refusal) if refusal.number() == ABSENT && has_none(record) => 0,
+            Err(Refusal::ABSENT) if has_none(record) => 0,
             Err(refusal) => {
                 return Verdict::Refused {
                     refusal,
@@ -89,7 +85,7 @@ impl Verdict {
         match (1..=leads).find_map(refused) {
             Some((place, refusal)) => Verdict::Refused {
                 refusal,
-                lead: (refusal.number() > OF_ALL).then_some(place),
+                lead: (refusal > OF_ALL).then_some(place),
             },
             None => Verdict::Accepted { leads },
         }
@@ -157,6 +153,7 @@ fn has_none(record: &[u8]) -> bool {
 #[cfg(test)]
 mod tests {
     use judge::make::{aimed, noise, Rng};
+    use scp::Refusal;
 
     use super::{Room, Verdict};
 
@@ -177,8 +174,8 @@ mod tests {
                     for place in 1..=leads {
                         assert!(scp::samples(&record, place).is_ok());
                     }
-                    let next = scp::samples(&record, leads + 1).map(|_| ());
-                    assert_eq!(next.map_err(|refusal| refusal.number()), Err(10));
+                    let next = scp::samples(&record, leads + 1);
+                    assert_eq!(next.err(), Some(Refusal::ABSENT));
                     accepted += 1;
                 }
                 Verdict::Refused { refusal, lead } => {
@@ -194,6 +191,7 @@ mod tests {
         }
         assert!(accepted > 0);
         let never: Vec<usize> = (1..15).filter(|&row| refused[row] == 0).collect();
-        assert_eq!(never, [11], "{refused:?}");
+        let room = usize::from(Refusal::ROOM.number());
+        assert_eq!(never, [room], "{refused:?}");
     }
 }

@@ -82,17 +82,17 @@ fn a_record_is_a_line() {
     let text = "\
 limb-leads.scp: accepted (410 bytes; 6 leads)
 007.scp: accepted (196 bytes; no lead)
-refused-12.scp: refused, number 12, lead 2 (406 bytes); rule broken: each value's code is in the current table and whole; \
-found: Section 6, lead 2: no value for sample 13: the stream ends inside the code at bit 47 of 48
+refused-12.scp: refused, number 12, lead 2 (406 bytes); rule broken: each value has a complete code of the current table; \
+found: Section 6, lead 2: no value for sample 13: the stream ends inside the code at bit 47 of 48 (byte 406)
 refused-1.scp: refused, number 1 (352 bytes); rule broken: a record has 142 to 1,048,576 bytes, as many as its size field says; \
-found: the length is 352 bytes, and the size field says 372
+found: the length is 352 bytes; the size field says 372
 
 The proved library decided; the explanation is not proved.
 
 4 files: 2 accepted, 2 refused, 0 not read
   Number  Files  Rule broken
        1      1  a record has 142 to 1,048,576 bytes, as many as its size field says
-      12      1  each value's code is in the current table and whole
+      12      1  each value has a complete code of the current table
 ";
     assert_eq!((ran.status, ran.out.as_str()), (1, text));
     let ran = run(&["check", "007.scp"]);

@@ -121,9 +121,9 @@ fn a_huge_file_is_not_read_whole() {
     assert_eq!((ran.status, ran.err.as_str()), (1, ""));
     for line in [
         "huge.scp: refused, number 1 (4,294,967,296 bytes); rule broken: ",
-        "found: the length is 4,294,967,296 bytes, over 1,048,576\n",
+        "found: the length is 4,294,967,296 bytes, over 1,048,576; the size field says 418\n",
         "empty.scp: refused, number 1 (0 bytes); rule broken: ",
-        "; the length is 0 bytes, under 142\n",
+        "; the length is 0 bytes, under 142; there is no size field (bytes 3 to 6)\n",
     ] {
         assert!(ran.out.contains(line), "{line}\n{}", ran.out);
     }

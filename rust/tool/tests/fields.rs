@@ -83,7 +83,7 @@ fn every_file_has_a_line() {
             "verdict": "refused",
             "refusal": 2,
             "rule": Refusal::try_from(2).unwrap().words(),
-            "found": ["the check stored is 0x5937, that of the bytes 0x5A44"],
+            "found": ["the CRC stored is 0x5937, and the bytes give 0x5A44"],
         })
     );
     assert_eq!(
@@ -176,7 +176,10 @@ fn fields_of_a_refused_record_are_not_told() {
         (&json!("-"), &json!(194))
     );
     assert_eq!(shown["refusal"], 6);
-    assert_eq!(shown["found"], json!(["tag 2 has no NUL at its end"]));
+    assert_eq!(
+        shown["found"],
+        json!(["tag 2 has no NUL at its end (byte 159)"])
+    );
     assert!(shown.get("fields").is_none());
     assert_eq!(shown["note"], NOTE);
 }

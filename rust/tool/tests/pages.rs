@@ -15,6 +15,7 @@ use std::process::{Command, Stdio};
 
 use common::folder::Folder;
 use common::{run, run_in, samples, Ran};
+use scp::Refusal;
 use walkdir::{DirEntry, WalkDir};
 
 /// The commands, as the help lists them.
@@ -48,7 +49,7 @@ fn other(program: &str, words: &[&str], input: &str) -> Option<Ran> {
 #[test]
 fn every_refusal_is_explained() {
     let mut names = Vec::new();
-    for number in 1..=17 {
+    for number in Refusal::all().map(Refusal::number) {
         let ran = run(&["--explain", &number.to_string()]);
         assert_eq!((ran.status, ran.err.as_str()), (0, ""));
         let name = ran
@@ -68,11 +69,11 @@ fn every_refusal_is_explained() {
     let all = names.len();
     names.sort();
     names.dedup();
-    assert_eq!((names.len(), all), (17, 17));
-    for number in ["0", "18", "256", "-1", "one", ""] {
+    assert_eq!((names.len(), all), (all, Refusal::all().count()));
+    for number in ["0", "255", "256", "-1", "one", ""] {
         let ran = run(&[&format!("--explain={number}")]);
         assert_eq!((ran.status, ran.out.as_str()), (2, ""), "{number}");
-        let words = ["refusals are numbered 1 to 17\n", "a value is required"];
+        let words = ["no refusal has this number\n", "a value is required"];
         assert!(
             words.iter().any(|words| ran.err.contains(words)),
             "{}",

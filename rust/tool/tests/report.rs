@@ -104,8 +104,8 @@ fn every_rule_that_is_broken_is_shown() {
     for lines in [
         "     5  section checks           kept\n     6  Section 1                broken\n",
         "     8  Sections 3 to 6          probably kept\n     9  bimodal, step, interval  probably broken\n",
-        "\nRule 6, Section 1: broken\n  rule broken  Section 1 is whole fields",
-        "\n  found        tag 2 has no NUL at its end\n",
+        "\nRule 6, Section 1: broken\n  rule broken  Section 1 is complete fields",
+        "\n  found        tag 2 has no NUL at its end (byte 159)\n",
         "\nRule 9, bimodal, step, interval: probably broken\n  found        the interval is 1000 in Section 5 and 2000",
         "\nNo lead is read: the record is refused, number 6\n",
         "\nRules 7 to 9 were asked alone, of bytes that break rule 6: the answer is a hint, and not certain.\n",

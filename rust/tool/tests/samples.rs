@@ -290,10 +290,19 @@ fn pointers_are_shown_as_they_are_stored() {
 fn a_refusal_is_explained() {
     for (name, found) in [
         ("refused-1.scp", "the size field says 372"),
-        ("refused-2.scp", "the check stored is 0x5937, that of the bytes 0x5A44"),
+        (
+            "refused-2.scp",
+            "the CRC stored is 0x5937, and the bytes give 0x5A44",
+        ),
         ("refused-3.scp", "pointer 14 has ID 128, not over 200"),
-        ("refused-4.scp", "Section 8 (bytes 213 to 232) overlaps Section 7 (bytes 197 to 236)"),
-        ("refused-5.scp", "Section 1, patient and recording: the check stored is 0x5C64, that of the bytes 0x4C45"),
+        (
+            "refused-4.scp",
+            "Section 8 (bytes 213 to 232) overlaps Section 7 (bytes 197 to 236)",
+        ),
+        (
+            "refused-5.scp",
+            "Section 1, patient and recording: the CRC stored is 0x5C64, and the bytes give 0x4C45",
+        ),
         ("refused-6.scp", "tag 2 has no NUL at its end"),
     ] {
         let ran = run(&["open", name]);
@@ -326,7 +335,7 @@ fn the_leads_of_each_sample_are_shown() {
 #[test]
 fn a_refusal_of_leads_is_explained() {
     for (name, found) in [
-        ("refused-7.scp", "table 2, structure 3: its prefix 101 begins with structure 2's, 10"),
+        ("refused-7.scp", "table 2, structure 3: prefix 101 begins with that of structure 2, 10"),
         ("refused-8.scp", "QRS 2: the zone starts at 10, and the one before it ends at 10"),
         ("refused-9.scp", "the interval is 1000 in Section 5 and 2000 in Section 6"),
         ("refused-10.scp", "found        Section 6 is absent\n"),

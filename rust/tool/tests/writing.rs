@@ -787,7 +787,7 @@ const REFUSED: [(Changes, Changes, u8, &str); 12] = [
         &[["\"tag\": 30", "\"tag\": 2"]],
         &[],
         6,
-        "tag 2 stands 2 times, not once",
+        "tag 2 occurs 2 times, not once",
     ),
     (
         &[["\"007\"", "\"00\\u00007\""]],
@@ -805,7 +805,7 @@ const REFUSED: [(Changes, Changes, u8, &str); 12] = [
         &[["default", "1F 4E 00"]],
         &[],
         7,
-        "a byte stands after the last table",
+        "1 byte after the code tables, where none may be",
     ),
     (
         &[["default", "09 00"]],
@@ -899,9 +899,9 @@ fn written(folder: &Folder, leads: usize, count: usize) -> Ran {
 fn a_job_that_is_too_long_is_refused() {
     let folder = Folder::new("too-long");
     let job = |leads, count| written(&folder, leads, count);
-    let found = "lead 1, I: its shortest stream has over 65,535 bytes";
+    let found = "lead 1, I: its shortest stream has 65,536 bytes, over 65,535";
     assert_refused(&folder, &job(1, 32_768), 16, found);
-    let found = "the leads' streams have 1,048,544 bytes, and the data of Sections 1 and 2 have";
+    let found = "the record would have 1,048,956 bytes, over 1,048,576";
     assert_refused(&folder, &job(16, 32_767), 16, found);
     let found = "lead 2, II: it has 65,537 samples, not 1 to 65,536";
     assert_refused(&folder, &job(2, 65_537), 17, found);

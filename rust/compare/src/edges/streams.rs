@@ -1,6 +1,8 @@
 //! Rows 12 to 14: values, samples and left-over bits.
 
-use super::{two_leads, Edges};
+use judge::row;
+
+use super::edge::{two_leads, Edges};
 use crate::rhythm::{
     bits, remainder, switch, tables, two_bytes, value, zone, Beat, Rhythm, Stored, DEFAULT_TABLE,
 };
@@ -8,7 +10,9 @@ use crate::rhythm::{
 /// Adds them all.
 pub fn add(edges: &mut Edges) {
     left_over(edges);
+    left_over_otherwise(edges);
     codes(edges);
+    switches(edges);
     differences(edges);
     beats(edges);
     order_of_faults(edges);
@@ -30,12 +34,12 @@ fn left_over(edges: &mut Edges) {
     for (refusal, samples, bytes) in [
         (0, 1, 1),
         (0, 8, 1),
-        (12, 9, 1),
+        (row::CODE, 9, 1),
         (0, 9, 2),
-        (14, 8, 2),
-        (14, 1, 2),
-        (14, 1, 3),
-        (12, 1, 0),
+        (row::LEFT_OVER_BITS, 8, 2),
+        (row::LEFT_OVER_BITS, 1, 2),
+        (row::LEFT_OVER_BITS, 1, 3),
+        (row::CODE, 1, 0),
     ] {
         let rhythm = lead(&DEFAULT_TABLE, 0, samples, zeros(8 * bytes));
         edges.rhythm(
@@ -49,17 +53,27 @@ fn left_over(edges: &mut Edges) {
         "seven ones left over",
         &lead(&DEFAULT_TABLE, 0, 1, bits("01111111")),
     );
+}
+
+/// The same where a switch is among the bits, and without tables.
+fn left_over_otherwise(edges: &mut Edges) {
     let two = tables(&[vec![value("0", 3), switch("1", 2)], vec![value("1", 4)]]);
     for (refusal, count, letters) in [
         (0, 1, "0 1"),
-        (14, 1, "0 1 1 1 1 1 1 1 1"),
+        (row::LEFT_OVER_BITS, 1, "0 1 1 1 1 1 1 1 1"),
         (0, 2, "0 1 1 1 1 1 1 1"),
         (0, 9, "0 1 1 1 1 1 1 1 1 1"),
     ] {
         let name = format!("{count} samples in {letters}, with a switch in them");
         edges.rhythm(refusal, name, &lead(&two, 0, count, bits(letters)));
     }
-    for (refusal, count, bytes) in [(0, 3, 6), (12, 3, 5), (14, 3, 7), (12, 3, 4), (14, 3, 8)] {
+    for (refusal, count, bytes) in [
+        (0, 3, 6),
+        (row::CODE, 3, 5),
+        (row::LEFT_OVER_BITS, 3, 7),
+        (row::CODE, 3, 4),
+        (row::LEFT_OVER_BITS, 3, 8),
+    ] {
         let rhythm = lead(&[], 0, count, vec![1; bytes]);
         edges.rhythm(
             refusal,
@@ -74,23 +88,31 @@ fn codes(edges: &mut Edges) {
     for (refusal, count, letters) in [
         (0, 1, "1111111110 10000000"),
         (0, 1, "1111111111 1000000000000000"),
-        (12, 1, "11111111"),
-        (12, 1, "1111111110 000000"),
-        (12, 1, "1111111111 00000000000000"),
-        (12, 2, "1111111110 10000000 111111"),
+        (row::CODE, 1, "11111111"),
+        (row::CODE, 1, "1111111110 000000"),
+        (row::CODE, 1, "1111111111 00000000000000"),
+        (row::CODE, 2, "1111111110 10000000 111111"),
     ] {
         let rhythm = lead(&DEFAULT_TABLE, 0, count, bits(letters));
         edges.rhythm(refusal, format!("{letters} by the default table"), &rhythm);
     }
     let gap = tables(&[vec![value("00", 1), remainder("01", 1)]]);
-    for (refusal, letters) in [(0, "00000000"), (12, "10000000"), (0, "01100000"), (12, "")] {
+    for (refusal, letters) in [
+        (0, "00000000"),
+        (row::CODE, "10000000"),
+        (0, "01100000"),
+        (row::CODE, ""),
+    ] {
         let rhythm = lead(&gap, 0, 1, bits(letters));
         edges.rhythm(refusal, format!("{letters} by a table with a gap"), &rhythm);
     }
-    // Tables that nothing leads out of, or that only switch.
+}
+
+/// Tables that nothing leads out of, that only switch, or that switch there and back.
+fn switches(edges: &mut Edges) {
     let round = tables(&[vec![switch("0", 2)], vec![switch("0", 1)]]);
     edges.rhythm(
-        12,
+        row::CODE,
         "two tables that only switch",
         &lead(&round, 0, 1, vec![0; 100]),
     );
@@ -98,7 +120,11 @@ fn codes(edges: &mut Edges) {
         vec![switch("1", 2), value("0", 1)],
         vec![switch("1", 1), value("0", 2)],
     ]);
-    for (refusal, count, letters) in [(0, 2, "1 0 0"), (0, 3, "0 1 0 1 0"), (12, 2, "1111 0111")] {
+    for (refusal, count, letters) in [
+        (0, 2, "1 0 0"),
+        (0, 3, "0 1 0 1 0"),
+        (row::CODE, 2, "1111 0111"),
+    ] {
         let rhythm = lead(&back, 0, count, bits(letters));
         edges.rhythm(
             refusal,
@@ -113,21 +139,21 @@ fn differences(edges: &mut Edges) {
     for (refusal, order, values) in [
         (0, 0, &[32_767, -32_768][..]),
         (0, 1, &[32_767, 0]),
-        (13, 1, &[32_767, 1]),
+        (row::SAMPLE, 1, &[32_767, 1]),
         (0, 1, &[-32_768, 32_767, 32_767, 1]),
-        (13, 1, &[-32_768, 32_767, 32_767, 2]),
-        (13, 1, &[-32_768, -1]),
+        (row::SAMPLE, 1, &[-32_768, 32_767, 32_767, 2]),
+        (row::SAMPLE, 1, &[-32_768, -1]),
         (0, 1, &[0, -32_768]),
-        (13, 1, &[-1, -32_768]),
+        (row::SAMPLE, 1, &[-1, -32_768]),
         (0, 2, &[32_767]),
         (0, 2, &[32_767, -32_768]),
         (0, 2, &[0, 16_383, 1]),
-        (13, 2, &[0, 16_383, 2]),
+        (row::SAMPLE, 2, &[0, 16_383, 2]),
         (0, 2, &[0, -16_384, 0]),
-        (13, 2, &[0, -16_384, -1]),
-        (13, 2, &[-32_768, 32_767, -32_768]),
+        (row::SAMPLE, 2, &[0, -16_384, -1]),
+        (row::SAMPLE, 2, &[-32_768, 32_767, -32_768]),
         (0, 2, &[32_767, 32_767, 0]),
-        (13, 2, &[32_767, 32_767, 1]),
+        (row::SAMPLE, 2, &[32_767, 32_767, 1]),
         (0, 2, &[-32_768, -32_768, 32_767, -32_767]),
     ] {
         let rhythm = lead(&[], order, values.len() as u32, two_bytes(values));
@@ -153,9 +179,9 @@ fn beaten(beat: &[i16], residual: &[i16], orders: [u8; 2]) -> Rhythm {
 fn beats(edges: &mut Edges) {
     for (refusal, beat, residual, orders) in [
         (0, &[9, 1, 9, 9, 9][..], &[5, 32_766, 5][..], [0, 0]),
-        (13, &[9, 1, 9, 9, 9], &[5, 32_767, 5], [0, 0]),
+        (row::SAMPLE, &[9, 1, 9, 9, 9], &[5, 32_767, 5], [0, 0]),
         (0, &[9, -1, 9, 9, 9], &[5, -32_767, 5], [0, 0]),
-        (13, &[9, -1, 9, 9, 9], &[5, -32_768, 5], [0, 0]),
+        (row::SAMPLE, &[9, -1, 9, 9, 9], &[5, -32_768, 5], [0, 0]),
         (0, &[9, -32_768, 9, 9, 9], &[5, 32_767, 5], [0, 0]),
         // only the zone's sample is added to, and by its own beat sample
         (
@@ -165,11 +191,16 @@ fn beats(edges: &mut Edges) {
             [0, 0],
         ),
         // a residual or a beat outside 16 bits, whatever the sum and whoever uses it
-        (13, &[0, -30_000, 0, 0, 0], &[32_767, 1, -1], [0, 1]),
-        (13, &[0, 0, 0, 32_767, 1], &[0, 0, 0], [1, 0]),
+        (
+            row::SAMPLE,
+            &[0, -30_000, 0, 0, 0],
+            &[32_767, 1, -1],
+            [0, 1],
+        ),
+        (row::SAMPLE, &[0, 0, 0, 32_767, 1], &[0, 0, 0], [1, 0]),
         (0, &[0, 0, 0, 32_767, 0], &[0, 0, 0], [1, 0]),
-        (12, &[0, 0, 0, 0], &[0, 0, 0], [0, 0]),
-        (14, &[0, 0, 0, 0, 0, 0], &[0, 0, 0], [0, 0]),
+        (row::CODE, &[0, 0, 0, 0], &[0, 0, 0], [0, 0]),
+        (row::LEFT_OVER_BITS, &[0, 0, 0, 0, 0, 0], &[0, 0, 0], [0, 0]),
         (0, &[1, 1, 1, 1, 1], &[1, 1, 1], [2, 1]),
     ] {
         let rhythm = beaten(beat, residual, orders);
@@ -181,26 +212,34 @@ fn beats(edges: &mut Edges) {
     if let Some(beat) = &mut rhythm.beat {
         beat.qrs.clear();
     }
-    edges.rhythm(12, "a beat cut short, and no zones", &rhythm);
+    edges.rhythm(row::CODE, "a beat cut short, and no zones", &rhythm);
 }
 
 /// Of several faults the first that is met: the beat's before the residual's, 12 before 13 at one value, 14 at the end.
 fn order_of_faults(edges: &mut Edges) {
     for (refusal, beat, residual, orders) in [
-        (12, &[0; 4][..], &[32_767, 1, 0][..], [0, 1]),
-        (14, &[0; 6], &[32_767, 1, 0], [0, 1]),
-        (14, &[0; 6], &[0], [0, 0]),
-        (13, &[32_767, 1], &[0], [1, 0]),
-        (13, &[32_767, 1, 0, 0, 0, 0, 0], &[0], [1, 0]),
-        (12, &[0, 1, 0, 0, 0], &[0, 32_767], [0, 0]),
-        (14, &[0, 1, 0, 0, 0], &[0, 32_767, 0, 0], [0, 0]),
+        (row::CODE, &[0; 4][..], &[32_767, 1, 0][..], [0, 1]),
+        (row::LEFT_OVER_BITS, &[0; 6], &[32_767, 1, 0], [0, 1]),
+        (row::LEFT_OVER_BITS, &[0; 6], &[0], [0, 0]),
+        (row::SAMPLE, &[32_767, 1], &[0], [1, 0]),
+        (row::SAMPLE, &[32_767, 1, 0, 0, 0, 0, 0], &[0], [1, 0]),
+        (row::CODE, &[0, 1, 0, 0, 0], &[0, 32_767], [0, 0]),
+        (
+            row::LEFT_OVER_BITS,
+            &[0, 1, 0, 0, 0],
+            &[0, 32_767, 0, 0],
+            [0, 0],
+        ),
     ] {
         let rhythm = beaten(beat, residual, orders);
         let name = format!("a beat of {beat:?}, then {residual:?}, of orders {orders:?}");
         edges.rhythm(refusal, name, &rhythm);
     }
     // 13 at the second value, and the third is not there; 12 at the second, whatever it would be.
-    for (refusal, values, extra) in [(13, &[32_767, 1][..], 0), (12, &[32_767], 1)] {
+    for (refusal, values, extra) in [
+        (row::SAMPLE, &[32_767, 1][..], 0),
+        (row::CODE, &[32_767], 1),
+    ] {
         let stream = [two_bytes(values), vec![1; extra]].concat();
         let name = format!("{values:?} and {extra} bytes for three samples");
         edges.rhythm(refusal, name, &lead(&[], 1, 3, stream));

@@ -1,12 +1,21 @@
 //! Row 7: Section 2.
 
-use super::{headed, two_leads, Edges};
+use judge::row;
+
+use super::edge::{headed, two_leads, Edges};
 use crate::rhythm::{bits, remainder, switch, tables, value, Code, DEFAULT_TABLE};
+
+/// What breaks the rules of Section 2.
+const BROKEN: u8 = row::SECTION_2;
 
 /// Adds them all.
 pub fn add(edges: &mut Edges) {
     frames(edges);
+    table_counts(edges);
+    structure_counts(edges);
     structures(edges);
+    switches(edges);
+    structure_bytes(edges);
     prefixes(edges);
     without_leads(edges);
 }
@@ -29,38 +38,51 @@ impl Edges {
     }
 }
 
-/// The number of tables and of structures, and where the data end.
+/// Where the data end.
 fn frames(edges: &mut Edges) {
     let plain = tables(&[vec![value("0", 5)]]);
     edges.tables(0, "one table of one structure, and a spare byte", &plain);
     edges.tables(0, "the default table", &DEFAULT_TABLE);
-    edges.tables(7, "no data in Section 2", &[]);
-    edges.tables(7, "two bytes after the default table", &[0x1F, 0x4E, 0, 0]);
+    edges.tables(BROKEN, "no data in Section 2", &[]);
     edges.tables(
-        7,
+        BROKEN,
+        "two bytes after the default table",
+        &[0x1F, 0x4E, 0, 0],
+    );
+    edges.tables(
+        BROKEN,
         "Section 2 without its last byte and the spare one",
         &plain[..12],
     );
     edges.tables(
-        7,
+        BROKEN,
         "three bytes after the tables",
         &[&plain[..], &[0; 3]].concat(),
     );
+}
+
+/// The number of tables.
+fn table_counts(edges: &mut Edges) {
+    let plain = tables(&[vec![value("0", 5)]]);
     for number in [0, 2, 9, 256, 19_998, 20_000, 65_535] {
         let mut data = plain.clone();
         data[..2].copy_from_slice(&u16::to_le_bytes(number));
-        edges.tables(7, format!("one table, {number} said"), &data);
+        edges.tables(BROKEN, format!("one table, {number} said"), &data);
     }
     for count in [0, 1, 2, 7, 8, 9] {
-        let refusal = if (1..=8).contains(&count) { 0 } else { 7 };
+        let refusal = if (1..=8).contains(&count) { 0 } else { BROKEN };
         let data = tables(&vec![vec![value("0", 5)]; count]);
         edges.tables(refusal, format!("{count} tables"), &data);
     }
+}
+
+/// The number of structures.
+fn structure_counts(edges: &mut Edges) {
     for count in [0, 1, 63, 64, 65] {
         let mut codes = vec![value("0", 5)];
         codes.extend((1..65).map(|k| value(format!("1{k:07b}"), k)));
         codes.truncate(count);
-        let refusal = if (1..=64).contains(&count) { 0 } else { 7 };
+        let refusal = if (1..=64).contains(&count) { 0 } else { BROKEN };
         let other = vec![value("1", 1)];
         edges.tables(
             refusal,
@@ -91,7 +113,7 @@ fn structures(edges: &mut Edges) {
         );
         edges.code(0, format!("{bits} bits, then 1"), remainder(ones(bits), 1));
         edges.code(
-            7,
+            BROKEN,
             format!("{bits} bits, then 17"),
             remainder(ones(bits), 17),
         );
@@ -101,9 +123,20 @@ fn structures(edges: &mut Edges) {
             mode,
             ..value("1", 1)
         };
-        edges.code(7, format!("mode {mode}"), code);
+        edges.code(BROKEN, format!("mode {mode}"), code);
     }
-    for (refusal, table) in [(0, 1), (7, 2), (7, 0), (7, -1), (7, 257), (7, i16::MIN)] {
+}
+
+/// A switch beside a sound structure.
+fn switches(edges: &mut Edges) {
+    for (refusal, table) in [
+        (0, 1),
+        (BROKEN, 2),
+        (BROKEN, 0),
+        (BROKEN, -1),
+        (BROKEN, 257),
+        (BROKEN, i16::MIN),
+    ] {
         edges.code(
             refusal,
             format!("a switch to table {table}"),
@@ -114,17 +147,21 @@ fn structures(edges: &mut Edges) {
         remainder: 1,
         ..switch("1", 1)
     };
-    edges.code(7, "a switch with a remainder", with_remainder);
+    edges.code(BROKEN, "a switch with a remainder", with_remainder);
+}
+
+/// The bytes of a structure one by one, beside a sound one.
+fn structure_bytes(edges: &mut Edges) {
     // The second structure's bytes: prefix bits, code bits, mode, base value, base code.
     let plain = tables(&[vec![value("0", 5), value("1", 1)]]);
     let second = 2 + 2 + 9;
     for (refusal, name, at, bytes) in [
-        (7, "a prefix of 0 bits", 0, &[0, 0][..]),
-        (7, "a prefix of 33 bits", 0, &[33, 33]),
-        (7, "a prefix of 255 bits", 0, &[255, 255]),
-        (7, "a code shorter than its prefix", 0, &[2, 1]),
-        (7, "a bit above the prefix", 5, &[3, 0]),
-        (7, "a bit far above the prefix", 5, &[1, 0, 0, 128]),
+        (BROKEN, "a prefix of 0 bits", 0, &[0, 0][..]),
+        (BROKEN, "a prefix of 33 bits", 0, &[33, 33]),
+        (BROKEN, "a prefix of 255 bits", 0, &[255, 255]),
+        (BROKEN, "a code shorter than its prefix", 0, &[2, 1]),
+        (BROKEN, "a bit above the prefix", 5, &[3, 0]),
+        (BROKEN, "a bit far above the prefix", 5, &[1, 0, 0, 128]),
         (0, "a base value beside a remainder", 0, &[1, 9, 1, 77, 77]),
     ] {
         let mut data = plain.clone();
@@ -139,11 +176,11 @@ fn prefixes(edges: &mut Edges) {
     for (refusal, one, other) in [
         (0, "10", "11"),
         (0, "1110", "110"),
-        (7, "11", "11"),
-        (7, "1", "11"),
-        (7, "101", "1011"),
-        (7, "1", long.as_str()),
-        (7, long.as_str(), long.as_str()),
+        (BROKEN, "11", "11"),
+        (BROKEN, "1", "11"),
+        (BROKEN, "101", "1011"),
+        (BROKEN, "1", long.as_str()),
+        (BROKEN, long.as_str(), long.as_str()),
         (0, &format!("{}0", &long[1..]), &long),
     ] {
         for (first, second) in [(one, other), (other, one)] {
@@ -162,10 +199,14 @@ fn prefixes(edges: &mut Edges) {
 fn without_leads(edges: &mut Edges) {
     let mut draft = headed();
     draft.put(2, &DEFAULT_TABLE);
-    edges.read(10, "the default table and no leads", &draft);
+    edges.read(row::ABSENT, "the default table and no leads", &draft);
     let mut draft = headed();
     draft.put(2, &[]);
-    edges.read(7, "no data in Section 2 and no leads", &draft);
+    edges.read(BROKEN, "no data in Section 2 and no leads", &draft);
     draft.put(6, &[]);
-    edges.read(7, "no data in Section 2 and Section 6 without 3", &draft);
+    edges.read(
+        BROKEN,
+        "no data in Section 2 and Section 6 without 3",
+        &draft,
+    );
 }

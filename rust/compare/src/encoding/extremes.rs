@@ -2,6 +2,7 @@
 //! slow, and streams about as long as can be. What each is to get is written here from the rules.
 
 use judge::make::Rng;
+use judge::row;
 
 use super::Job;
 use crate::rhythm::{remainder, switch, tables, value, Code, DEFAULT_TABLE};
@@ -38,31 +39,52 @@ impl Extreme {
 
 /// All of them.
 pub fn all() -> Vec<Extreme> {
-    let accepted = |name, bits, section2, samples, order| Extreme {
+    [
+        plain(),
+        switching(),
+        ties(),
+        without_code(),
+        long(),
+        without_tables(),
+    ]
+    .into_iter()
+    .flatten()
+    .collect()
+}
+
+/// A lead that is accepted.
+fn accepted(
+    name: &'static str,
+    bits: Option<u32>,
+    section2: Vec<u8>,
+    samples: Vec<i16>,
+    order: u8,
+) -> Extreme {
+    Extreme {
         name,
         refusal: 0,
         bits,
         section2,
         samples,
         order,
-    };
-    let refused = |name, refusal, section2, samples| Extreme {
-        name,
+    }
+}
+
+/// A lead that is refused.
+fn refused(name: &'static str, refusal: u8, section2: Vec<u8>, samples: Vec<i16>) -> Extreme {
+    Extreme {
         refusal,
-        bits: None,
-        section2,
-        samples,
-        order: 0,
-    };
-    let default = || DEFAULT_TABLE.to_vec();
-    let rising = || tables(&hostile(RISING));
-    let with = |at: usize, other: i16| {
-        let mut samples = to_and_fro(MOST);
-        samples[at] = other;
-        samples
-    };
-    let mut eights = vec![1; MOST];
-    eights[0] = 0;
+        ..accepted(name, None, section2, samples, 0)
+    }
+}
+
+/// The default table.
+fn default() -> Vec<u8> {
+    DEFAULT_TABLE.to_vec()
+}
+
+/// As many samples, tables and structures as can be.
+fn plain() -> Vec<Extreme> {
     vec![
         accepted("one sample of one bit", Some(1), default(), vec![0], 2),
         accepted(
@@ -86,11 +108,18 @@ pub fn all() -> Vec<Extreme> {
             wave(MOST),
             1,
         ),
+    ]
+}
+
+/// Tables that make a search slow.
+fn switching() -> Vec<Extreme> {
+    let rising = tables(&hostile(RISING));
+    vec![
         // a 0 takes 2 bits where the codes go on in its table, else 1 more for the switch; a 1 takes 7 switches and 2 bits
         accepted(
             "switches through all tables, rising",
             Some(2 + 32_767 * 3 + 32_768 * 9),
-            rising(),
+            rising,
             to_and_fro(MOST),
             0,
         ),
@@ -108,6 +137,36 @@ pub fn all() -> Vec<Extreme> {
             to_and_fro(MOST),
             0,
         ),
+    ]
+}
+
+/// Leads of which one sample has no code.
+fn without_code() -> Vec<Extreme> {
+    let rising = || tables(&hostile(RISING));
+    let with = |at: usize, other: i16| {
+        let mut samples = to_and_fro(MOST);
+        samples[at] = other;
+        samples
+    };
+    vec![
+        refused(
+            "no code for the first sample",
+            row::NO_STREAM,
+            rising(),
+            with(0, 7),
+        ),
+        refused(
+            "no code for the last",
+            row::NO_STREAM,
+            rising(),
+            with(MOST - 1, 7),
+        ),
+    ]
+}
+
+/// Codes that are equally short, and switches that lead nowhere.
+fn ties() -> Vec<Extreme> {
+    vec![
         accepted(
             "two codes for each value, equally short",
             Some(2 * 65_536),
@@ -122,8 +181,14 @@ pub fn all() -> Vec<Extreme> {
             vec![0; MOST],
             0,
         ),
-        refused("no code for the first sample", 15, rising(), with(0, 7)),
-        refused("no code for the last", 15, rising(), with(MOST - 1, 7)),
+    ]
+}
+
+/// Streams about as long as can be, by tables.
+fn long() -> Vec<Extreme> {
+    let mut eights = vec![1; MOST];
+    eights[0] = 0;
+    vec![
         accepted(
             "as many bits as can be",
             Some(524_280),
@@ -131,7 +196,12 @@ pub fn all() -> Vec<Extreme> {
             vec![1; MOST - 1],
             0,
         ),
-        refused("one bit more", 16, tables(&one_or_eight()), eights),
+        refused(
+            "one bit more",
+            row::TOO_LONG,
+            tables(&one_or_eight()),
+            eights,
+        ),
         accepted(
             "20,164 codes of 26 bits",
             Some(524_264),
@@ -139,13 +209,24 @@ pub fn all() -> Vec<Extreme> {
             vec![200; 20_164],
             0,
         ),
-        refused("20,165 codes of 26 bits", 16, default(), vec![200; 20_165]),
+        refused(
+            "20,165 codes of 26 bits",
+            row::TOO_LONG,
+            default(),
+            vec![200; 20_165],
+        ),
         refused(
             "more bits than a lead can have, 30 times",
-            16,
+            row::TOO_LONG,
             tables(&longest(RISING)),
             to_and_fro(MOST),
         ),
+    ]
+}
+
+/// Streams about as long as can be without tables, and too many samples and too few.
+fn without_tables() -> Vec<Extreme> {
+    vec![
         accepted(
             "32,767 values of two bytes",
             Some(524_272),
@@ -153,10 +234,25 @@ pub fn all() -> Vec<Extreme> {
             wave(32_767),
             2,
         ),
-        refused("32,768 values of two bytes", 16, Vec::new(), wave(32_768)),
-        refused("65,536 values of two bytes", 16, Vec::new(), wave(MOST)),
-        refused("65,537 samples", 17, default(), vec![0; MOST + 1]),
-        refused("no sample", 17, default(), Vec::new()),
+        refused(
+            "32,768 values of two bytes",
+            row::TOO_LONG,
+            Vec::new(),
+            wave(32_768),
+        ),
+        refused(
+            "65,536 values of two bytes",
+            row::TOO_LONG,
+            Vec::new(),
+            wave(MOST),
+        ),
+        refused(
+            "65,537 samples",
+            row::WRITER_BOUNDS,
+            default(),
+            vec![0; MOST + 1],
+        ),
+        refused("no sample", row::WRITER_BOUNDS, default(), Vec::new()),
     ]
 }
 

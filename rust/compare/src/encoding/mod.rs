@@ -7,7 +7,7 @@ use judge::make::{Rng, ToEncode};
 use judge::{Coded, Reader, Refused};
 use scp::raw;
 
-use crate::calls::{hold, number, same, Difference};
+use crate::answers::{hold, number, same, Difference};
 use crate::guarded::{self, Right, ROOM};
 use crate::lent::Lent;
 use crate::rhythm::tables_in;

@@ -2,7 +2,7 @@
 //! rules.
 
 use judge::make::ToWrite;
-use judge::Refused;
+use judge::{row, Refused};
 
 use super::work_of;
 use crate::encoding::extremes::{hostile, mixed, to_and_fro, wave, CROSSING, RISING};
@@ -31,7 +31,7 @@ pub struct Edge {
 
 impl Edge {
     fn new(name: impl Into<String>, refusal: u8, job: ToWrite) -> Edge {
-        let searched = matches!(refusal, 0 | 15 | 16);
+        let searched = matches!(refusal, 0 | row::NO_STREAM | row::TOO_LONG);
         Edge {
             name: name.into(),
             refusal,
@@ -108,96 +108,102 @@ fn three(section2: &[u8]) -> ToWrite {
 /// A change of a job.
 type Change = fn(&mut ToWrite);
 
+/// Jobs within each bound of row 17.
+const WITHIN: [(&str, Change); 15] = [
+    ("as it is", |_| {}),
+    ("one lead of one sample", |job| set(job, 1, 1)),
+    ("32 leads", |job| set(job, 32, 2)),
+    ("65,536 samples", |job| set(job, 1, MOST)),
+    ("order 0", |job| job.order = 0),
+    ("order 1", |job| job.order = 1),
+    ("step 1", |job| job.step = 1),
+    ("step 65,535", |job| job.step = 65_535),
+    ("interval 1", |job| job.interval = 1),
+    ("interval 65,535", |job| job.interval = 65_535),
+    ("the last number that there is", |job| {
+        job.firsts[0] = u32::MAX - 6
+    }),
+    ("the same in the last lead", |job| {
+        job.firsts[2] = u32::MAX - 4
+    }),
+    ("the largest first number", |job| {
+        set(job, 2, 1);
+        job.firsts[1] = u32::MAX;
+    }),
+    ("no flags and version 0", |job| {
+        (job.flags, job.version) = (0, 0)
+    }),
+    ("other counts with the same sum", |job| {
+        job.counts = vec![1, 13, 1]
+    }),
+];
+
+/// Jobs outside of them.
+const OUTSIDE: [(&str, Change); 27] = [
+    ("no lead", |job| set(job, 0, 1)),
+    ("no lead, and samples", |job| {
+        let samples = job.samples.clone();
+        set(job, 0, 1);
+        job.samples = samples;
+    }),
+    ("33 leads", |job| set(job, 33, 2)),
+    ("289 leads, of which 8 bits say 33", |job| set(job, 289, 1)),
+    ("256 leads, of which 8 bits say 0", |job| set(job, 256, 1)),
+    ("257 leads, of which 8 bits say 1", |job| set(job, 257, 1)),
+    ("65,537 samples", |job| set(job, 1, MOST + 1)),
+    ("a lead of no sample", |job| set(job, 1, 0)),
+    ("no sample in the first of three", |job| {
+        job.counts = vec![0, 10, 5]
+    }),
+    ("no sample in the last of three", |job| {
+        job.counts = vec![10, 5, 0]
+    }),
+    ("order 3", |job| job.order = 3),
+    ("order 255", |job| job.order = 255),
+    ("step 0", |job| job.step = 0),
+    ("interval 0", |job| job.interval = 0),
+    ("a first number 0", |job| job.firsts[0] = 0),
+    ("a first number 0 in the last lead", |job| job.firsts[2] = 0),
+    ("a last number of 33 bits", |job| {
+        job.firsts[0] = u32::MAX - 5
+    }),
+    ("a last number of 33 bits in the last lead", |job| {
+        job.firsts[2] = u32::MAX
+    }),
+    ("a sample too many", |job| job.samples.push(0)),
+    ("a sample too few", |job| job.samples.truncate(14)),
+    ("no samples", |job| job.samples.clear()),
+    ("one lead's samples", |job| job.samples.truncate(7)),
+    ("a count too many", |job| job.counts[1] += 1),
+    ("a count too few", |job| job.counts[2] -= 1),
+    ("counts whose sum in 32 bits is right", |job| {
+        job.counts = vec![1 << 31, 1 << 31, 15]
+    }),
+    ("the largest counts", |job| job.counts = vec![u32::MAX; 3]),
+    ("a count that is right in 16 bits", |job| {
+        job.counts[0] += 65_536
+    }),
+];
+
 /// Each bound of row 17 from both sides.
 fn bounds() -> Vec<Edge> {
-    let within: [(&str, Change); 15] = [
-        ("as it is", |_| {}),
-        ("one lead of one sample", |job| set(job, 1, 1)),
-        ("32 leads", |job| set(job, 32, 2)),
-        ("65,536 samples", |job| set(job, 1, MOST)),
-        ("order 0", |job| job.order = 0),
-        ("order 1", |job| job.order = 1),
-        ("step 1", |job| job.step = 1),
-        ("step 65,535", |job| job.step = 65_535),
-        ("interval 1", |job| job.interval = 1),
-        ("interval 65,535", |job| job.interval = 65_535),
-        ("the last number that there is", |job| {
-            job.firsts[0] = u32::MAX - 6
-        }),
-        ("the same in the last lead", |job| {
-            job.firsts[2] = u32::MAX - 4
-        }),
-        ("the largest first number", |job| {
-            set(job, 2, 1);
-            job.firsts[1] = u32::MAX;
-        }),
-        ("no flags and version 0", |job| {
-            (job.flags, job.version) = (0, 0)
-        }),
-        ("other counts with the same sum", |job| {
-            job.counts = vec![1, 13, 1]
-        }),
-    ];
-    let without: [(&str, Change); 27] = [
-        ("no lead", |job| set(job, 0, 1)),
-        ("no lead, and samples", |job| {
-            let samples = job.samples.clone();
-            set(job, 0, 1);
-            job.samples = samples;
-        }),
-        ("33 leads", |job| set(job, 33, 2)),
-        ("289 leads, of which 8 bits say 33", |job| set(job, 289, 1)),
-        ("256 leads, of which 8 bits say 0", |job| set(job, 256, 1)),
-        ("257 leads, of which 8 bits say 1", |job| set(job, 257, 1)),
-        ("65,537 samples", |job| set(job, 1, MOST + 1)),
-        ("a lead of no sample", |job| set(job, 1, 0)),
-        ("no sample in the first of three", |job| {
-            job.counts = vec![0, 10, 5]
-        }),
-        ("no sample in the last of three", |job| {
-            job.counts = vec![10, 5, 0]
-        }),
-        ("order 3", |job| job.order = 3),
-        ("order 255", |job| job.order = 255),
-        ("step 0", |job| job.step = 0),
-        ("interval 0", |job| job.interval = 0),
-        ("a first number 0", |job| job.firsts[0] = 0),
-        ("a first number 0 in the last lead", |job| job.firsts[2] = 0),
-        ("a last number of 33 bits", |job| {
-            job.firsts[0] = u32::MAX - 5
-        }),
-        ("a last number of 33 bits in the last lead", |job| {
-            job.firsts[2] = u32::MAX
-        }),
-        ("a sample too many", |job| job.samples.push(0)),
-        ("a sample too few", |job| job.samples.truncate(14)),
-        ("no samples", |job| job.samples.clear()),
-        ("one lead's samples", |job| job.samples.truncate(7)),
-        ("a count too many", |job| job.counts[1] += 1),
-        ("a count too few", |job| job.counts[2] -= 1),
-        ("counts whose sum in 32 bits is right", |job| {
-            job.counts = vec![1 << 31, 1 << 31, 15]
-        }),
-        ("the largest counts", |job| job.counts = vec![u32::MAX; 3]),
-        ("a count that is right in 16 bits", |job| {
-            job.counts[0] += 65_536
-        }),
-    ];
-    let edges = |refusal: u8, changes: &[(&str, Change)]| -> Vec<Edge> {
-        let made = changes.iter().flat_map(|(name, change)| {
-            [&DEFAULT_TABLE[..], &[]].map(|section2| {
-                let mut job = three(section2);
-                change(&mut job);
-                // what is within the bounds, and has no stream that is short enough
-                let long = refusal == 0 && section2.is_empty() && job.counts[0] == MOST as u32;
-                Edge::new(*name, if long { 16 } else { refusal }, job)
-            })
-        });
-        made.collect()
-    };
-    let mut all = edges(0, &within);
-    all.extend(edges(17, &without));
+    let mut all = changed(0, &WITHIN);
+    all.extend(changed(row::WRITER_BOUNDS, &OUTSIDE));
     all
+}
+
+/// Three leads after each of these changes, by the default table and without tables.
+fn changed(refusal: u8, changes: &[(&str, Change)]) -> Vec<Edge> {
+    let made = changes.iter().flat_map(|(name, change)| {
+        [&DEFAULT_TABLE[..], &[]].map(|section2| {
+            let mut job = three(section2);
+            change(&mut job);
+            // what is within the bounds, and has no stream that is short enough
+            let long = refusal == 0 && section2.is_empty() && job.counts[0] == MOST as u32;
+            Edge::new(*name, if long { row::TOO_LONG } else { refusal }, job)
+        })
+    });
+    made.collect()
 }
 
 /// So many leads of so many samples.
@@ -222,12 +228,66 @@ fn lists() -> Vec<Edge> {
         job.ids = vec![1; ids];
         job.samples = vec![5; 2 * counts];
         let name = format!("lists of {firsts}, {counts} and {ids} leads");
-        edges.push(Edge::new(name, 17, job));
+        edges.push(Edge::new(name, row::WRITER_BOUNDS, job));
     }
     edges
 }
 
 // ---- rows 6 and 7
+
+/// Changes of what is given for Sections 1 and 2.
+const SECTIONS: [(&str, u8, Change); 19] = [
+    ("no header", row::SECTION_1, |job| job.section1.clear()),
+    ("no end mark", row::SECTION_1, |job| {
+        job.section1.truncate(21)
+    }),
+    ("part of an end mark", row::SECTION_1, |job| {
+        job.section1.truncate(23)
+    }),
+    ("an end mark alone", row::SECTION_1, |job| {
+        job.section1 = vec![255, 0, 0]
+    }),
+    ("a byte after the end mark", row::SECTION_1, |job| {
+        job.section1.push(0)
+    }),
+    ("two bytes after it", row::SECTION_1, |job| {
+        job.section1.extend([0, 0])
+    }),
+    ("a second end mark", row::SECTION_1, |job| {
+        job.section1.extend([255, 0, 0])
+    }),
+    ("an end mark with a length", row::SECTION_1, |job| {
+        job.section1[22] = 1
+    }),
+    ("an identifier with no NUL", row::SECTION_1, |job| {
+        job.section1[4] = b'7'
+    }),
+    ("a field more", 0, |job| {
+        job.section1.splice(0..0, [30, 1, 0, b'x']);
+    }),
+    ("a field that holds an end mark", 0, |job| {
+        job.section1.splice(0..0, [30, 3, 0, 255, 0, 0]);
+    }),
+    ("one byte of tables", row::SECTION_2, |job| {
+        job.section2 = vec![1]
+    }),
+    ("a spare byte", row::SECTION_2, |job| job.section2.push(0)),
+    ("two spare bytes", row::SECTION_2, |job| {
+        job.section2.extend([0, 0])
+    }),
+    ("no table", row::SECTION_2, |job| job.section2 = vec![0, 0]),
+    ("nine tables", row::SECTION_2, |job| {
+        job.section2 = vec![9, 0]
+    }),
+    ("own tables", 0, |job| job.section2 = tables(&mixed())),
+    ("own tables with a spare byte", row::SECTION_2, |job| {
+        job.section2 = [tables(&mixed()), vec![0]].concat()
+    }),
+    ("own tables cut short", row::SECTION_2, |job| {
+        job.section2 = tables(&mixed());
+        job.section2.pop();
+    }),
+];
 
 /// What is given for Sections 1 and 2.
 fn sections() -> Vec<Edge> {
@@ -236,39 +296,7 @@ fn sections() -> Vec<Edge> {
         change(&mut job);
         Edge::new(name, refusal, job)
     };
-    let changes: [(&str, u8, Change); 19] = [
-        ("no header", 6, |job| job.section1.clear()),
-        ("no end mark", 6, |job| job.section1.truncate(21)),
-        ("part of an end mark", 6, |job| job.section1.truncate(23)),
-        ("an end mark alone", 6, |job| job.section1 = vec![255, 0, 0]),
-        ("a byte after the end mark", 6, |job| job.section1.push(0)),
-        ("two bytes after it", 6, |job| job.section1.extend([0, 0])),
-        ("a second end mark", 6, |job| {
-            job.section1.extend([255, 0, 0])
-        }),
-        ("an end mark with a length", 6, |job| job.section1[22] = 1),
-        ("an identifier with no NUL", 6, |job| job.section1[4] = b'7'),
-        ("a field more", 0, |job| {
-            job.section1.splice(0..0, [30, 1, 0, b'x']);
-        }),
-        ("a field that holds an end mark", 0, |job| {
-            job.section1.splice(0..0, [30, 3, 0, 255, 0, 0]);
-        }),
-        ("one byte of tables", 7, |job| job.section2 = vec![1]),
-        ("a spare byte", 7, |job| job.section2.push(0)),
-        ("two spare bytes", 7, |job| job.section2.extend([0, 0])),
-        ("no table", 7, |job| job.section2 = vec![0, 0]),
-        ("nine tables", 7, |job| job.section2 = vec![9, 0]),
-        ("own tables", 0, |job| job.section2 = tables(&mixed())),
-        ("own tables with a spare byte", 7, |job| {
-            job.section2 = [tables(&mixed()), vec![0]].concat()
-        }),
-        ("own tables cut short", 7, |job| {
-            job.section2 = tables(&mixed());
-            job.section2.pop();
-        }),
-    ];
-    changes.map(made).into()
+    SECTIONS.map(made).into()
 }
 
 // ---- rows 11, 15 and 16
@@ -284,13 +312,13 @@ fn rooms() -> Vec<Edge> {
         if has_tables {
             let mut short = exact.clone();
             short.work_len -= 1;
-            edges.push(Edge::new("a byte of work space too few", 11, short));
+            edges.push(Edge::new("a byte of work space too few", row::ROOM, short));
         }
         let mut short = exact.clone();
         short.out_len -= 1;
         edges.push(Edge {
             cleared: has_tables,
-            ..Edge::new("a byte of output too few", 11, short)
+            ..Edge::new("a byte of output too few", row::ROOM, short)
         });
         edges.push(Edge::new("just enough room", 0, exact));
     }
@@ -299,16 +327,16 @@ fn rooms() -> Vec<Edge> {
             let mut leads = vec![wave(9); 3];
             leads.insert(place, WIDEST.to_vec());
             let name = format!("no stream for lead {} of 4", place + 1);
-            edges.push(Edge::new(name, 15, job(section2, 2, &leads)));
+            edges.push(Edge::new(name, row::NO_STREAM, job(section2, 2, &leads)));
             leads[place] = jagged(40_000);
             let name = format!("too long a stream for lead {} of 4", place + 1);
-            edges.push(Edge::new(name, 16, job(section2, 2, &leads)));
+            edges.push(Edge::new(name, row::TOO_LONG, job(section2, 2, &leads)));
             leads.push(WIDEST.to_vec());
             let name = format!(
                 "too long a stream for lead {}, none for the last",
                 place + 1
             );
-            edges.push(Edge::new(name, 15, job(section2, 2, &leads)));
+            edges.push(Edge::new(name, row::NO_STREAM, job(section2, 2, &leads)));
         }
     }
     edges
@@ -328,13 +356,13 @@ fn jagged(count: usize) -> Vec<i16> {
 
 /// The faults that a job can have, in the order that they are met in: the refusal, and whether a search has begun.
 const FAULTS: [(u8, bool); 7] = [
-    (17, false),
-    (6, false),
-    (7, false),
-    (11, false),
-    (15, true),
-    (16, true),
-    (11, true),
+    (row::WRITER_BOUNDS, false),
+    (row::SECTION_1, false),
+    (row::SECTION_2, false),
+    (row::ROOM, false),
+    (row::NO_STREAM, true),
+    (row::TOO_LONG, true),
+    (row::ROOM, true),
 ];
 
 /// Every choice of faults: the first of them is answered. Without Section 2 there are no faults of it or of work space.
@@ -386,30 +414,32 @@ fn with_faults(has_tables: bool, is_chosen: impl Fn(usize) -> bool) -> Edge {
 
 // ---- the largest
 
+/// As many leads as can be, as long as can be: 3 bits and 1 bit by turns, and now and then 26.
+fn full() -> ToWrite {
+    let lead = |at: usize| -> Vec<i16> {
+        let sample = |n: usize| match (n + at) % 16 {
+            0 => 200,
+            n => (n % 2) as i16,
+        };
+        (0..MOST).map(sample).collect()
+    };
+    job(&DEFAULT_TABLE, 0, &(0..LEADS).map(lead).collect::<Vec<_>>())
+}
+
+/// A job with as many fields more as make its record so long.
+fn filled(job: &ToWrite, bytes: usize) -> ToWrite {
+    let mut job = job.clone();
+    let room = bytes - length_of(&job);
+    fill(&mut job, room);
+    job
+}
+
 /// Jobs as large as can be: leads, samples, tables, structures, and bytes of the record.
 pub fn largest() -> Vec<Edge> {
-    let full = || {
-        // 3 bits and 1 bit by turns, and now and then 26
-        let lead = |at: usize| -> Vec<i16> {
-            let sample = |n: usize| match (n + at) % 16 {
-                0 => 200,
-                n => (n % 2) as i16,
-            };
-            (0..MOST).map(sample).collect()
-        };
-        job(&DEFAULT_TABLE, 0, &(0..LEADS).map(lead).collect::<Vec<_>>())
-    };
     let two_bytes = |leads: usize| job(&[], 1, &vec![wave(32_767); leads]);
     let searched = |order| {
         let leads = [to_and_fro(2000), vec![0], to_and_fro(MOST), vec![1; 9]];
         job(&tables(&hostile(order)), 0, &leads)
-    };
-    // the same with as many fields as make the record so long
-    let filled = |job: &ToWrite, bytes: usize| {
-        let mut job = job.clone();
-        let room = bytes - length_of(&job);
-        fill(&mut job, room);
-        job
     };
     let full_record = filled(&full(), scp::RECORD_MAX);
     let mut too_long = full_record.clone();
@@ -417,7 +447,7 @@ pub fn largest() -> Vec<Edge> {
     vec![
         Edge::new("32 leads of 65,536 samples", 0, full()),
         Edge::new("32 long leads, a full record", 0, full_record),
-        Edge::new("32 long leads, a record too long", 16, too_long),
+        Edge::new("32 long leads, a record too long", row::TOO_LONG, too_long),
         Edge::new(
             "15 leads of two bytes, a full record",
             0,
@@ -425,11 +455,11 @@ pub fn largest() -> Vec<Edge> {
         ),
         Edge::new(
             "15 leads of two bytes, too long",
-            16,
+            row::TOO_LONG,
             filled(&two_bytes(15), scp::RECORD_MAX + 2),
         ),
-        Edge::new("16 leads of two bytes", 16, two_bytes(16)),
-        Edge::new("32 leads of two bytes", 16, two_bytes(32)),
+        Edge::new("16 leads of two bytes", row::TOO_LONG, two_bytes(16)),
+        Edge::new("32 leads of two bytes", row::TOO_LONG, two_bytes(32)),
         Edge::new("8 hostile tables of 64", 0, searched(RISING)),
         Edge::new("the same in another order", 0, searched(CROSSING)),
         Edge::new(

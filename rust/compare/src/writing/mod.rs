@@ -8,7 +8,7 @@ use judge::make::{self, Rng, ToWrite};
 use judge::{Refused, Writing};
 use scp::raw;
 
-use crate::calls::{hold, number, same, Difference};
+use crate::answers::{hold, number, same, Difference};
 use crate::guarded::{self, Right, ROOM};
 use crate::lent::Lent;
 use crate::rhythm::tables_in;

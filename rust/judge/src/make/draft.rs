@@ -7,6 +7,7 @@ use super::rng::Rng;
 use super::section_1;
 use super::tables::{self, Row};
 use crate::bounds;
+use crate::encoding::tables_to_write;
 use crate::tables::Tables;
 
 /// How values are coded.
@@ -111,7 +112,7 @@ impl Draft {
                 tables::data(&self.rows)
             }
         };
-        self.tables = Some(crate::tables::tables(&data, 0)?);
+        self.tables = tables_to_write(&data).ok()?;
         self.plan.put(rng, 2, data);
         Some(())
     }

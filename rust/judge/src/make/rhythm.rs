@@ -2,8 +2,8 @@
 
 use super::rng::Rng;
 use super::streams::{draw, Draw};
+use crate::beat::beat_count;
 use crate::bounds;
-use crate::leads::beat_count;
 use crate::tables::Tables;
 
 /// A lead as it must be read.

@@ -2,6 +2,7 @@
 
 use super::rng::Rng;
 use crate::bounds;
+use crate::encoding::tables_to_write;
 use crate::tables::{Meaning, Structure, Tables, DEFAULT};
 
 /// A structure as it is stored, before its bytes.
@@ -56,7 +57,7 @@ pub fn rows(rng: &mut Rng) -> Vec<Vec<Row>> {
         false => 1 + rng.small(7),
     };
     let mut tables: Vec<Vec<Row>> = (0..number).map(|_| table(rng, number, kind)).collect();
-    let read = crate::tables::tables(&data(&tables), 0);
+    let read = tables_to_write(&data(&tables)).ok().flatten();
     if !read.is_some_and(|tables| alive(&tables)[0]) {
         let first = &mut tables[0][0];
         first.mode = 1;

@@ -10,13 +10,12 @@ use crate::json;
 use crate::names;
 use crate::output::{shown, Output};
 use crate::refused::{self, Refused};
-use crate::rules;
 use crate::status::Status;
 use crate::table::{self, numbers, words, Column};
 use crate::verdict::{Room, Verdict};
 
-/// So many rules are asked alone, from 1.
-const ALONE: u8 = 9;
+/// The last rule that is asked alone.
+const ALONE: Refusal = Refusal::BIMODAL_STEP_INTERVAL;
 
 const RULES: [Column; 3] = [numbers("Rule"), words(""), words("Answer")];
 const LEADS: [Column; 3] = [numbers("Lead"), words(""), words("Answer")];
@@ -70,7 +69,7 @@ impl Answer {
     }
 
     fn name(&self) -> &'static str {
-        rules::name(self.refusal)
+        self.refusal.name()
     }
 
     /// The answer in words.
@@ -105,8 +104,8 @@ impl Read {
 
 /// Asks the rules one by one. Of a record that is too long not all bytes were read, and the first alone is asked.
 fn answers(input: &Input) -> Vec<Answer> {
-    let rules = match input.bytes.len() > scp::RECORD_MAX {
-        true => 1,
+    let last = match input.bytes.len() > scp::RECORD_MAX {
+        true => Refusal::LENGTH,
         false => ALONE,
     };
     let mut is_certain = true;
@@ -126,7 +125,10 @@ fn answers(input: &Input) -> Vec<Answer> {
         is_certain &= !is_broken;
         answer
     };
-    Refusal::all().take(rules.into()).map(ask).collect()
+    Refusal::all()
+        .take_while(|&refusal| refusal <= last)
+        .map(ask)
+        .collect()
 }
 
 /// Reads every lead, if the record has leads that can be asked for.
@@ -217,7 +219,7 @@ impl<'a> Report<'a> {
                 output.line(format_args!(
                     "No lead is read: the record is refused, number {number}"
                 ));
-                if number > ALONE {
+                if refusal > ALONE {
                     output.lines(Refused::of(self.input, 1, refusal).lines());
                 }
             }

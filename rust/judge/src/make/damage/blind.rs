@@ -1,8 +1,8 @@
 //! Changes that know nothing of the rules.
 
 use crate::make::plan::{mend, mend_check, mend_size};
-use crate::make::record;
 use crate::make::rng::Rng;
+use crate::make::sound::record;
 
 /// Bytes of no meaning, of any length from 0 on; some have the size and check of a record.
 pub fn noise(rng: &mut Rng) -> Vec<u8> {

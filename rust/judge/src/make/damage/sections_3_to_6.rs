@@ -1,6 +1,6 @@
 //! Rows 8 and 9: each rule and bound of Sections 3 to 6, and their agreement.
 
-use crate::leads::beat_count;
+use crate::beat::beat_count;
 use crate::make::draft::{Draft, Holds};
 use crate::make::plan::{put_four, put_two};
 use crate::make::rhythm::{Beat, Qrs};
