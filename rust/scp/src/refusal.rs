@@ -167,7 +167,8 @@ apart, and those of the leads 2000 us.",
         plain: "\
 The record has no such lead or field: there is no lead at this place of Section 3,
 or no Section 3 or 6, or no field with this tag. A record with neither Section 3
-nor Section 6 has no lead at all, and check accepts it.",
+nor Section 6 has no leads: check accepts it, and the commands that need leads call
+them absent.",
         example: "samples/refused-10.scp has Section 3 and no Section 6.",
         given: Given::Leads,
     }

@@ -64,18 +64,6 @@ impl Making {
         })
     }
 
-    /// The value that is stored for the sample at a place, from 0: its difference, of the record's order. The first samples, as
-    /// many as the order, are stored as they are.
-    pub fn stored(&self, samples: &[i16], at: usize) -> i32 {
-        let sample = |back: usize| i32::from(samples[at - back]);
-        match self.order {
-            order if at < usize::from(order) => sample(0),
-            0 => sample(0),
-            1 => sample(0) - sample(1),
-            _ => sample(0) - 2 * sample(1) + sample(2),
-        }
-    }
-
     /// Whether a record, read by the library, says all of this: fields, tables, and every lead with its samples. What differs
     /// if it does not, which would be a fault of the library or of the disk.
     pub fn is_said_by(&self, record: &[u8]) -> Result<(), String> {
@@ -115,26 +103,5 @@ impl Making {
             }
         }
         Ok(())
-    }
-}
-
-#[cfg(test)]
-mod tests {
-    use super::Making;
-
-    #[test]
-    fn differences_are_stored() {
-        let samples = [-32768, 32767, -32768, 5];
-        for (order, values) in [
-            (0, [-32768, 32767, -32768, 5]),
-            (1, [-32768, 65535, -65535, 32773]),
-            (2, [-32768, 32767, -131070, 98308]),
-        ] {
-            let making = Making {
-                order,
-                ..Making::default()
-            };
-            assert_eq!([0, 1, 2, 3].map(|at| making.stored(&samples, at)), values);
-        }
     }
 }

@@ -131,7 +131,7 @@ impl fmt::Display for Verdict {
 /// That a record has not the lead at a place, in words, if that is what it is refused for. A record with one of Sections 3 and
 /// 6 alone is not sound: there is no verdict on it but that it is refused.
 pub fn absent(record: &[u8], place: usize, refusal: Refusal) -> Option<String> {
-    if refusal.number() != ABSENT {
+    if refusal != Refusal::ABSENT {
         return None;
     }
     match scp::lead(record, 1) {
