@@ -15,21 +15,21 @@ pub fn show(refusal: Refusal, output: &mut Output) -> Status {
     output.line(format_args!("For example, {}", refusal.example()));
     if let Some(given) = refusal.given() {
         output.block();
-        output.line(format_args!("Given by {}.", commands(given)));
+        output.line(given_by(given));
     }
     Status::Accepted
 }
 
-/// The commands whose calls give a refusal.
-fn commands(given: Given) -> &'static str {
+/// Who meets a refusal, in a sentence.
+fn given_by(given: Given) -> &'static str {
     match given {
-        Given::Opening => "every command that reads a record",
-        Given::OpeningAndWriting => "every command that reads a record, and write",
-        Given::Leads => "leads, samples, check, report and pack",
-        Given::LeadsAndWriting => "leads, samples, check, report and pack, and write",
-        Given::Streams => "samples, check, report and pack, each lead by itself",
-        Given::Lending => "no command, but the library",
-        Given::Writing => "write",
+        Given::Opening => "Given by every command that reads a record.",
+        Given::OpeningAndWriting => "Given by every command that reads a record, and by write.",
+        Given::Leads => "Given by leads, samples, check, report and pack.",
+        Given::LeadsAndWriting => "Given by leads, samples, check, report, pack and write.",
+        Given::Streams => "Given by samples, check, report and pack, for each lead by itself.",
+        Given::Lending => "Only programs that call the library see this.",
+        Given::Writing => "Given by write.",
     }
 }
 

@@ -229,7 +229,7 @@ fn a_file_that_is_no_record_is_said_to_be_none() {
     }
     let shown = run(&["report", "refused-2.scp", "--json"]).json();
     let found = shown["found"][0].as_str().unwrap();
-    assert!(found.starts_with("the check stored"), "{found}");
+    assert!(found.starts_with("the CRC stored"), "{found}");
 }
 
 /// Of a file that is too long not all is read, and no more is asked than its length.
