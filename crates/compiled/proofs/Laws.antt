@@ -16,7 +16,8 @@ use Rattle.bits.specs.InnerWindow.{turned}
 use Rattle.bits.proofs.Laws.{length-lowFirst, small-lowFirst, number-small}
 use Rattle.tables.specs.declared.Structure.{Structure}
 use Rattle.tables.specs.Structures.{remainderOf, modeRight, structureRight, apart, noStructure}
-use Rattle.tables.proofs.Laws.{Fine, fine, RightTable, every-at, free-at, right-at}
+use Rattle.wire.proofs.Every.{every-at}
+use Rattle.tables.proofs.Laws.{Fine, fine, RightTable, free-at, right-at}
 use Rattle.compiled.specs.declared.Form.{Form}
 use Rattle.compiled.specs.InnerForm.{lowest, beyond, formOf, formAt, Compiled, CompiledOrNone}
 

@@ -17,7 +17,8 @@ use Rattle.tables.specs.declared.Structure.{Structure}
 use Rattle.tables.specs.Structures.{structureAt, structuresAt, noStructure}
 use Rattle.tables.specs.Default.{defaultTable, twoValues, valued}
 use Rattle.tables.specs.Section2.{tableAt, afterTable, tablesFrom, tableRight}
-use Rattle.tables.proofs.Laws.{every-at, right-at, tables-cons}
+use Rattle.wire.proofs.Every.{every-at}
+use Rattle.tables.proofs.Laws.{right-at, tables-cons}
 use Rattle.compiled.specs.declared.Form.{Form}
 use Rattle.compiled.specs.InnerForm.{formOf, formAt, numbersOf, Says, Beside, TwoBytes, SameTables, Compiled}
 use Rattle.compiled.proofs.Laws.{held-count}

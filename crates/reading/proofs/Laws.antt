@@ -17,7 +17,8 @@ use Rattle.bits.proofs.Laws.{length-lowFirst, begins-split}
 use Rattle.tables.specs.declared.Structure.{Structure}
 use Rattle.tables.specs.Structures.{prefixOf, remainderOf, structureRight, noStructure}
 use Rattle.tables.specs.Section2.{tableOf, tableRight}
-use Rattle.tables.proofs.Laws.{fine, RightTable, every-at, right-at}
+use Rattle.wire.proofs.Every.{every-at}
+use Rattle.tables.proofs.Laws.{fine, RightTable, right-at}
 use Rattle.compiled.specs.InnerForm.{formOf}
 use Rattle.reading.specs.Reading.{Next, gave, stuck, matching, valueOf, afterMatch, readWithin, readCoded, readNext}
 

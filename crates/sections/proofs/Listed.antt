@@ -14,13 +14,6 @@ use Rattle.layout.specs.Layout.{pointerBytes}
 use Rattle.layout.proofs.Laws.{length-pointerBytes}
 use Rattle.sections.specs.Sections.{Section, nth, bodies, totalLength, indexFor, pointersFor, rising}
 
--- a rule of every section holds of the j-th
-pub every-nth : (p : Section → Bool) (ss : List Section) (j : ℕ) → j < length ss → every p ss ≡ true → p (nth ss j) ≡ true
-unfolding every
-every-nth p [] j h t = absurd (omega arith)
-every-nth p (s ∷ ss) zero h t = and-eq-true-iff (p s) (every p ss) .0 t .0
-every-nth p (s ∷ ss) (suc j) h t = every-nth p ss j (omega arith) (and-eq-true-iff (p s) (every p ss) .0 t .1)
-
 -- ---- their bytes
 
 pub length-bodies : (ss : List Section) → length (bodies ss) ≡ totalLength ss

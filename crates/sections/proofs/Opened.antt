@@ -10,6 +10,7 @@ use lib.Dec.{eqb}
 use lib.ListN.{length}
 use Rattle.wire.specs.Numbers.{numberAt}
 use Rattle.wire.proofs.Laws.{all-all}
+use Rattle.wire.proofs.Every.{every-at}
 use Rattle.wire.proofs.Places.{stands-byte, stands-written}
 use Rattle.header.specs.Header.{section1Right}
 use Rattle.wire.specs.Bounds.{fewestPointers}
@@ -17,10 +18,10 @@ use Rattle.pointers.specs.Pointers.{dataAt, idOf, present, sectionOf}
 use Rattle.record.specs.RecordRules.{lengthRight, holdsCheck, recordCheckRight, lettersRight, idRight, ownPointerRight, section0Right}
 use Rattle.record.specs.RecordRules.{sectionsApart, placedRight, allPlacedRight, sectionCheckRight, checksRight, fieldsRight}
 use Rattle.record.specs.Opening.{openRefusal}
-use Rattle.sections.specs.Sections.{Section, nth, usable, pointerCount, section0Size, sizeFor, recordFrom, Fit}
+use Rattle.sections.specs.Sections.{absentSection, Section, nth, usable, pointerCount, section0Size, sizeFor, recordFrom, Fit}
 use Rattle.sections.proofs.Parts.{stands-number, stands-check, checked-holds}
 use Rattle.sections.proofs.Sound.{Sound, usable-cases}
-use Rattle.sections.proofs.Listed.{every-nth, place-least, place-apart, idBefore, rising-at}
+use Rattle.sections.proofs.Listed.{place-least, place-apart, idBefore, rising-at}
 use Rattle.sections.proofs.Pointed.{absent-placed, absent-check, absent-apart, ends-before}
 use Rattle.sections.proofs.Pointed.{pointed-present, pointed-start, pointed-end, pointed-section, pointed-placed, pointed-check}
 use Rattle.sections.proofs.Frame as F
@@ -110,7 +111,7 @@ module _ (v w : ℕ) (ss : List Section) (f : Fit ss) where
 
   -- absent or sound
   case-at : (j : ℕ) → j < length ss → (length (nth ss j .bytes) ≡ 0) ⊎ Sound (nth ss j .id) (nth ss j .bytes)
-  case-at j h = usable-cases (nth ss j) (every-nth usable ss j h (f .each))
+  case-at j h = usable-cases (nth ss j) (every-at usable (absentSection 0) ss (f .each) j h)
 
   -- ---- rules 4 and 5
 

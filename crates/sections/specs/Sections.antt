@@ -9,7 +9,7 @@ use lib.Dec.{leb, ltb, eqb}
 use lib.ListN.{length, getD}
 use Rattle.wire.specs.Numbers.{numberAt, bytesOf}
 use Rattle.wire.specs.RuleWords.{every}
-use Rattle.wire.specs.Bounds.{fewestPointers, mostPointers}
+use Rattle.wire.specs.Bounds.{fewestPointers, mostPointers, mostBytes}
 use Rattle.pointers.specs.Pointers.{countOf, idOf, sectionOf}
 use Rattle.record.specs.RecordRules.{holdsCheck}
 use Rattle.layout.specs.Layout.{evened, sectionLength, checked, sectionBytes, letters, zeroReserved, pointerBytes, section2Bytes}
@@ -109,7 +109,7 @@ pub record Fit (ss : List Section) : Type 0 where
   pub order : rising 1 0 ss ≡ true
   pub each : every usable ss ≡ true
   pub first : 0 < length (nth ss 0 .bytes)
-  pub small : sizeFor ss ≤ 1048576
+  pub small : sizeFor ss ≤ mostBytes
 
 -- ---- the sections of a record
 

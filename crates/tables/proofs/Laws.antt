@@ -10,6 +10,7 @@ use lib.ListN.{length, getD}
 use borrow.Author.Tests.{leb-true, ltb-true, eqb-true, eqb-false, eq-eqb, ne-eqb}
 use Rattle.wire.specs.Numbers.{numberAt}
 use Rattle.wire.proofs.Laws.{unlike}
+use Rattle.wire.proofs.Every.{every-at}
 use Rattle.wire.specs.RuleWords.{every}
 use Rattle.bits.specs.Bits.{lowFirst, begins}
 use Rattle.tables.specs.declared.Structure.{Structure}
@@ -21,31 +22,6 @@ use Rattle.tables.specs.Section2.{isDefault, tableCount, tableAt, afterT
 either : (t a b : Bool) → cond t a b ≡ true → ((t ≡ true) × (a ≡ true)) ⊎ ((t ≡ false) × (b ≡ true))
 either true a b h = inl (refl, h)
 either false a b h = inr (refl, h)
-
--- ---- a rule of every element, for any type of elements
-
-module _ {A : Type 0} (rule : A → Bool) where
-  -- the first element breaks the rule
-  pub every-miss : {l : List A} (x : A) (xs : List A) → l ≡ x ∷ xs → rule x ≡ false → every rule l ≡ false
-  unfolding every
-  every-miss x xs e h = rw (e, h)
-
-  -- the first element keeps the rule, so the others decide
-  pub every-step : {l : List A} (x : A) (xs : List A) → l ≡ x ∷ xs → rule x ≡ true → every rule l ≡ every rule xs
-  unfolding every
-  every-step x xs e h = rw (e, h)
-
-  -- no element is left
-  pub every-end : {l : List A} → l ≡ [] → every rule l ≡ true
-  unfolding every
-  every-end e = rw e
-
-  -- the rule holds at each place
-  pub every-at : (d : A) (xs : List A) → every rule xs ≡ true → (k : ℕ) → k < length xs → rule (getD xs k d) ≡ true
-  unfolding every
-  every-at d [] h k g = absurd (omega arith)
-  every-at d (x ∷ xs) h zero g = and-eq-true-iff (rule x) _ .0 h .0
-  every-at d (x ∷ xs) h (suc k) g = every-at d xs (and-eq-true-iff (rule x) _ .0 h .1) k (omega arith)
 
 -- ---- structures and tables one after another
 

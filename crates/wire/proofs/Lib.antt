@@ -1,3 +1,4 @@
 pub mod Laws
 pub mod Tests
 pub mod Places
+pub mod Every

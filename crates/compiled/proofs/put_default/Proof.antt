@@ -10,7 +10,8 @@ use Rattle.wire.specs.RuleWords.{every}
 use Rattle.tables.specs.declared.Structure.{Structure}
 use Rattle.tables.specs.Structures.{structureRight, noStructure}
 use Rattle.tables.specs.Default.{defaultTable, twoValues, valued}
-use Rattle.tables.proofs.Laws.{fine, table-right, every-at}
+use Rattle.wire.proofs.Every.{every-at}
+use Rattle.tables.proofs.Laws.{fine, table-right}
 use Rattle.tables.proofs.Default.{default-right}
 use Rattle.compiled.specs.InnerForm.{formOf}
 use Rattle.compiled.proofs.Laws.{form-fine, form-room}

@@ -7,7 +7,8 @@ use lib.ListN.{length, getD}
 use Rattle.wire.specs.Numbers.{numberAt}
 use Rattle.tables.specs.declared.Structure.{Structure}
 use Rattle.tables.specs.Structures.{structureAt, structuresAt, structureRight, noStructure}
-use Rattle.tables.proofs.Laws.{fine, every-at, length-structuresAt, getD-structuresAt}
+use Rattle.wire.proofs.Every.{every-at}
+use Rattle.tables.proofs.Laws.{fine, length-structuresAt, getD-structuresAt}
 use Rattle.compiled.specs.InnerForm.{formOf}
 use Rattle.compiled.proofs.Laws.{form-fine, form-room}
 use Rattle.compiled.proofs.Putting.{Upto, upto-start, upto-turn, upto-end}

@@ -10,7 +10,8 @@ use lib.ListN.{length, getD, drop}
 use Rattle.wire.specs.Numbers.{numberAt}
 use Rattle.tables.specs.Structures.{structuresAt}
 use Rattle.tables.specs.Section2.{tableAt, afterTable, tablesFrom, tableRight}
-use Rattle.tables.proofs.Laws.{table-right, every-at, length-structuresAt, length-tables, after-right}
+use Rattle.wire.proofs.Every.{every-at}
+use Rattle.tables.proofs.Laws.{table-right, length-structuresAt, length-tables, after-right}
 use Rattle.compiled.specs.InnerForm.{Says}
 use Rattle.compiled.proofs.Putting.{tables-next, tables-turn}
 use Rattle.compiled.proofs.put_tables.Statement.{statement}

@@ -6,7 +6,8 @@ use borrow.Author.Needs.{needs}
 use Rattle.tables.specs.Section2.{tablesFrom, tableRight}
 use Rattle.wire.proofs.Tests.{kept, broken}
 use Rattle.wire.specs.RuleWords.{every}
-use Rattle.tables.proofs.Laws.{every-miss, every-step, every-end, tables-cons, tables-none, after-right}
+use Rattle.wire.proofs.Every.{every-miss, every-step, every-end}
+use Rattle.tables.proofs.Laws.{tables-cons, tables-none, after-right}
 use Rattle.tables.proofs.all_tables_right.Statement.{statement}
 use Rattle.tables.proofs.all_tables_right.Tie as tie
 

@@ -6,7 +6,8 @@ use borrow.Author.Needs.{needs}
 use Rattle.tables.specs.Structures.{structuresAt, apart}
 use Rattle.wire.proofs.Tests.{kept, broken}
 use Rattle.wire.specs.RuleWords.{every}
-use Rattle.tables.proofs.Laws.{every-miss, every-step, every-end, structures-cons, structures-none}
+use Rattle.wire.proofs.Every.{every-miss, every-step, every-end}
+use Rattle.tables.proofs.Laws.{structures-cons, structures-none}
 use Rattle.tables.proofs.apart_from.Statement.{statement}
 use Rattle.tables.proofs.apart_from.Tie as tie
 

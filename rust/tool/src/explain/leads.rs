@@ -27,7 +27,7 @@ pub fn words(finding: &Finding, fault: &LeadFault) -> String {
             };
             format!("the {what} is {section_5} in Section 5 and {section_6} in Section 6")
         }
-        LeadFault::PlaceZero => "places count from 1".to_string(),
+        LeadFault::PlaceZero => "--lead starts at 1".to_string(),
         LeadFault::NoLead { place, leads } => {
             format!("there is no lead {place}: Section 3 has {leads}")
         }
