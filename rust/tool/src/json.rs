@@ -10,11 +10,11 @@ use serde_json::value::{to_raw_value, RawValue};
 
 use crate::input::Size;
 use crate::names;
-use crate::output::{hex, reason};
 use crate::reading::Reading;
 use crate::refused::{self, Refused};
 use crate::tally::Tally;
-use crate::verdict::Word;
+use crate::text::{hex, reason};
+use crate::verdict::{Verdict, Word};
 
 /// A file: the verdict on it, and what it holds where that is shown.
 #[derive(Serialize)]
@@ -139,7 +139,17 @@ pub fn unread(file: &Path, error: &io::Error) -> About<Nothing> {
 /// The content that `check` shows of a record that was accepted.
 #[derive(Serialize)]
 pub struct Counted {
-    pub lead_count: usize,
+    lead_count: usize,
+}
+
+impl Counted {
+    /// How many leads a record has, if it was accepted.
+    pub fn of(verdict: Verdict) -> Option<Counted> {
+        match verdict {
+            Verdict::Accepted { leads } => Some(Counted { lead_count: leads }),
+            Verdict::Refused { .. } => None,
+        }
+    }
 }
 
 /// The content that `open` shows.

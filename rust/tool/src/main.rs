@@ -18,6 +18,7 @@ mod making;
 mod names;
 mod ordered;
 mod output;
+mod paths;
 mod reading;
 mod refused;
 mod rules;
@@ -25,6 +26,7 @@ mod status;
 mod store;
 mod table;
 mod tally;
+mod text;
 mod verdict;
 
 use std::io::Write;

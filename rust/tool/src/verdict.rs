@@ -5,9 +5,8 @@ use std::fmt;
 use scp::{Pointer, Refusal, SAMPLES_MAX};
 use serde::Serialize;
 
-use crate::commands::leads::how_many;
 use crate::input::Size;
-use crate::json;
+use crate::text::how_many;
 
 /// The last refusal that all leads have alike.
 const OF_ALL: Refusal = Refusal::ABSENT;
@@ -96,14 +95,6 @@ impl Verdict {
         match self {
             Verdict::Accepted { .. } => None,
             Verdict::Refused { lead, .. } => *lead,
-        }
-    }
-
-    /// How many leads a record has that was accepted, as JSON.
-    pub fn lead_count(&self) -> Option<json::Counted> {
-        match self {
-            Verdict::Accepted { leads } => Some(json::Counted { lead_count: *leads }),
-            Verdict::Refused { .. } => None,
         }
     }
 

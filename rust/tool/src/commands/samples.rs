@@ -5,13 +5,15 @@ use std::path::Path;
 
 use scp::{Entry, Refusal};
 
-use super::leads::how_many;
-use crate::input::{read_or_complain, Input};
+use super::given::read_or_complain;
+use crate::input::Input;
 use crate::json;
 use crate::names;
-use crate::output::{shown, Output};
+use crate::output::Output;
+use crate::paths::shown;
 use crate::refused::{self, Refused};
 use crate::status::Status;
+use crate::text::how_many;
 
 /// How many samples stand in a line of text.
 const SAMPLES_A_LINE: usize = 10;

@@ -2,10 +2,10 @@
 
 use judge::{row, Finding, FrameFault};
 
-use super::{section, Subject};
+use super::subject::{section, Subject};
 use crate::input::Size;
 use crate::names;
-use crate::output::hex;
+use crate::text::hex;
 
 /// The fewest bytes that a record has.
 const RECORD_MIN: u64 = 142;
