@@ -2,7 +2,7 @@
 
 use std::fmt;
 
-use scp::{Pointer, Refusal, SAMPLES_MAX};
+use scp::{Lead, Pointer, Refusal, SAMPLES_MAX};
 use serde::Serialize;
 
 use crate::input::Size;
@@ -54,15 +54,15 @@ impl Default for Room {
 }
 
 impl Room {
-    /// Reads a lead. Its samples are left where they are. All that is lent for a beat is cleared, so that little is lent
-    /// first, and all if that is too little.
-    pub fn read(&mut self, record: &[u8], place: usize) -> Result<(), Refusal> {
-        let mut read =
-            |work: &mut [i16]| scp::read_lead(record, place, &mut self.out, work).map(|_| ());
-        match read(&mut self.work[..MOST_BEATS]) {
+    /// Reads a lead and its samples. All that is lent for a beat is cleared, so that little is lent first, and all if that is
+    /// too little.
+    pub fn read(&mut self, record: &[u8], place: usize) -> Result<(Lead, &[i16]), Refusal> {
+        let mut read = |work: &mut [i16]| scp::read_lead(record, place, &mut self.out, work);
+        let lead = match read(&mut self.work[..MOST_BEATS]) {
             Err(Refusal::ROOM) => read(&mut self.work),
             answer => answer,
-        }
+        }?;
+        Ok((lead, &self.out[..lead.count]))
     }
 }
 
