@@ -46,7 +46,7 @@ has_rust() {
 
 # Prints the names of the packages that are missing.
 missing_packages() {
-    wanted='librust-clap-dev librust-clap-complete-dev librust-csv-dev librust-indicatif-dev'
+    wanted='librust-clap-dev librust-clap-complete-dev librust-csv-dev librust-hex-dev librust-indicatif-dev'
     wanted="$wanted librust-serde-derive-dev librust-serde-json-dev librust-signal-hook-dev librust-walkdir-dev"
     if is_native; then
         has_rust || wanted="$wanted cargo-web rustc-web"

@@ -201,13 +201,8 @@ impl TryFrom<String> for Hex {
     fn try_from(text: String) -> Result<Hex, String> {
         let mut bytes = Vec::new();
         for word in text.split_ascii_whitespace() {
-            let digits: Option<Vec<u8>> = word
-                .chars()
-                .map(|letter| letter.to_digit(16).map(|digit| digit as u8))
-                .collect();
-            let digits = digits.filter(|digits| digits.len() % 2 == 0);
-            let digits = digits.ok_or_else(|| format!("{word:?} is not pairs of hex digits"))?;
-            bytes.extend(digits.chunks(2).map(|pair| pair[0] << 4 | pair[1]));
+            let pairs = hex::decode(word);
+            bytes.extend(pairs.map_err(|_| format!("{word:?} is not pairs of hex digits"))?);
         }
         Ok(Hex(bytes))
     }
