@@ -22,9 +22,9 @@ pub struct Input {
 /// How long an input is.
 #[derive(Clone, Copy, Debug, PartialEq, Eq)]
 pub enum Size {
-    /// So many bytes.
+    /// This number of bytes.
     Exactly(u64),
-    /// More than so many; the rest was not read.
+    /// More than this number; the rest was not read.
     Over(u64),
 }
 

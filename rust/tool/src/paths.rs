@@ -4,7 +4,7 @@ use std::path::Path;
 
 use crate::escape::escaped;
 
-/// The name that stands for standard input.
+/// The name of standard input on the command line.
 const STANDARD_INPUT: &str = "-";
 
 /// The names that standard input and standard output are shown by.

@@ -34,7 +34,7 @@ pub fn reason(error: &io::Error) -> String {
     }
 }
 
-/// So many things.
+/// A number of things, in words.
 pub fn counted(count: usize, thing: &str) -> String {
     match count {
         1 => format!("1 {thing}"),
@@ -42,7 +42,7 @@ pub fn counted(count: usize, thing: &str) -> String {
     }
 }
 
-/// So many leads, in words.
+/// A number of leads, in words.
 pub fn how_many(leads: usize) -> String {
     match leads {
         0 => "no lead".to_string(),

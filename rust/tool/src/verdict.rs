@@ -11,7 +11,7 @@ use crate::text::how_many;
 /// The last refusal that all leads have alike.
 const OF_ALL: Refusal = Refusal::ABSENT;
 
-/// So many samples most beats have at most.
+/// Most beats have no more samples than this.
 const MOST_BEATS: usize = 2048;
 
 /// A verdict in a word.
@@ -29,7 +29,7 @@ pub enum Word {
 /// What was judged.
 #[derive(Clone, Copy, Debug, PartialEq, Eq)]
 pub enum Verdict {
-    /// It opens, and so many leads are read: none, where it has neither Section 3 nor Section 6.
+    /// It opens, and this many leads are read: none, where it has neither Section 3 nor Section 6.
     Accepted { leads: usize },
     /// It is refused, or a lead of it at this place is, the first one.
     Refused {

@@ -63,7 +63,7 @@ struct Judged {
     refused: Option<Refused>,
 }
 
-/// Checks all files of these paths, so many at a time; the worst of them is the status.
+/// Checks all files of these paths, this many at a time; the worst of them is the status.
 pub fn run(paths: &[PathBuf], asked: Asked, jobs: Option<u16>, output: &mut Output) -> Status {
     let jobs = match jobs {
         Some(jobs) => jobs.into(),

@@ -274,7 +274,7 @@ fn reason(error: csv::Error) -> io::Error {
 
 // ---- JSON
 
-/// The refusal of the first lead that is refused stands for the record. The entries are asked for, since JSON has all of them:
+/// The record has the refusal of the first lead that is refused. The entries are asked for, since JSON has all of them:
 /// the order of the differences and the bytes of the streams, too.
 fn as_json(
     file: &Path,
