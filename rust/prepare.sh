@@ -37,22 +37,26 @@ is_native() { [ "$(uname -m)" = x86_64 ]; }
 has_command() { command -v "$1" >/dev/null 2>&1; }
 has_package() { [ "$(dpkg-query -W -f '${db:Status-Status}' "$1" 2>/dev/null)" = installed ]; }
 
+# Prints the second number of a Rust compiler's version: 85 for 1.85.0.
+rust_minor() { "$1" --version | sed -n 's/^rustc 1\.\([0-9]*\)\..*/\1/p'; } # COMPILER
+
 # Whether there is a Rust compiler that is new enough, 1.85. Debian 12 has one, called rustc-web: its rustc is older.
 has_rust() {
     has_command cargo && has_command rustc || return
-    minor=$(rustc --version | sed -n 's/^rustc 1\.\([0-9]*\)\..*/\1/p')
+    minor=$(rust_minor rustc)
     [ "${minor:-0}" -ge 85 ]
 }
 
 # Prints the names of the packages that are missing.
 missing_packages() {
-    wanted='librust-clap-dev librust-clap-complete-dev librust-csv-dev librust-indicatif-dev'
-    wanted="$wanted librust-serde-derive-dev librust-serde-json-dev librust-signal-hook-dev librust-walkdir-dev"
+    wanted='librust-clap-dev librust-clap-complete-dev librust-csv-dev librust-hex-dev librust-indicatif-dev'
+    wanted="$wanted librust-serde-derive-dev librust-serde-json-dev librust-signal-hook-dev librust-walkdir-dev shellcheck"
     if is_native; then
         has_rust || wanted="$wanted cargo-web rustc-web"
+        has_command cargo-fmt || { has_rust && ! has_package rustc-web; } || wanted="$wanted rustfmt-web"
         has_command gcc || wanted="$wanted gcc libc6-dev"
     else
-        wanted="$wanted cargo-web rustc-web gcc-x86-64-linux-gnu libc6-dev-amd64-cross qemu-user"
+        wanted="$wanted cargo-web rustc-web rustfmt-web gcc-x86-64-linux-gnu libc6-dev-amd64-cross qemu-user"
     fi
     for package in $wanted; do
         has_package "$package" || echo "$package"

@@ -6,7 +6,8 @@ use std::path::{Path, PathBuf};
 
 use walkdir::{DirEntry, WalkDir};
 
-use crate::input::{self, Reader};
+use crate::input::Reader;
+use crate::paths::is_standard;
 
 /// Something that a path leads to.
 pub enum Listed {
@@ -34,7 +35,7 @@ pub fn listed(paths: Vec<PathBuf>) -> impl Iterator<Item = Listed> + Send {
     paths.into_iter().flat_map(move |path| {
         let itself = match reader.claim(&path) {
             Err(error) => Some(Listed::Unread(path.clone(), error)),
-            Ok(()) if input::is_standard(&path) => Some(Listed::File(path.clone())),
+            Ok(()) if is_standard(&path) => Some(Listed::File(path.clone())),
             Ok(()) => None,
         };
         let walked = itself.is_none().then(|| walked(path));

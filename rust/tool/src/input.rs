@@ -6,11 +6,8 @@ use std::io::{self, Read};
 use std::mem;
 use std::path::Path;
 
-use crate::json;
-use crate::output::{parted, Output};
-
-/// The name that stands for standard input.
-const STANDARD_INPUT: &str = "-";
+use crate::paths::is_standard;
+use crate::text::parted;
 
 /// What was read.
 pub struct Input {
@@ -25,9 +22,9 @@ pub struct Input {
 /// How long an input is.
 #[derive(Clone, Copy, Debug, PartialEq, Eq)]
 pub enum Size {
-    /// So many bytes.
+    /// This number of bytes.
     Exactly(u64),
-    /// More than so many; the rest was not read.
+    /// More than this number; the rest was not read.
     Over(u64),
 }
 
@@ -39,11 +36,6 @@ impl fmt::Display for Size {
             Size::Over(bytes) => write!(f, "over {} bytes", parted(&bytes.to_string())),
         }
     }
-}
-
-/// Whether a path is the name of standard input.
-pub fn is_standard(path: &Path) -> bool {
-    path.as_os_str() == STANDARD_INPUT
 }
 
 /// Reads files, and standard input once.
@@ -77,17 +69,6 @@ pub fn read(path: &Path) -> io::Result<Input> {
     let metadata = Some(file.metadata()?).filter(Metadata::is_file);
     let input = read_from(file, metadata.as_ref().map(Metadata::len))?;
     Ok(Input { metadata, ..input })
-}
-
-/// Reads a file, or standard input; if it cannot be read, that is complained of, and is said in JSON where that is asked for.
-pub fn read_or_complain(path: &Path, json: bool, output: &mut Output) -> Option<Input> {
-    let complain = |error| {
-        if json {
-            output.line(json::text(&json::unread(path, &error)));
-        }
-        output.complain(path, &error);
-    };
-    read(path).map_err(complain).ok()
 }
 
 /// Reads one byte more than the longest record has, at most: that is enough to see it refused. `known` is the length

@@ -18,6 +18,7 @@ mod making;
 mod names;
 mod ordered;
 mod output;
+mod paths;
 mod reading;
 mod refused;
 mod rules;
@@ -25,6 +26,7 @@ mod status;
 mod store;
 mod table;
 mod tally;
+mod text;
 mod verdict;
 
 use std::io::Write;
@@ -110,10 +112,7 @@ fn run(command: Command, output: &mut Output) -> Status {
             out,
             force,
             preserve,
-        } => {
-            let asked = pack::Asked { force, preserve };
-            pack::run(&file, &out, asked, output)
-        }
+        } => pack::run(&file, &out, pack::Asked { force, preserve }, output),
         Command::Write { job, out, force } => commands::write::run(&job, &out, force, output),
         Command::Help { command } => help(command, output),
         Command::Man => commands::man::run(output),

@@ -6,7 +6,8 @@ use scp::Refusal;
 
 use crate::explain::{self, Looked};
 use crate::input::Input;
-use crate::output::{shown, Output};
+use crate::output::Output;
+use crate::paths::shown;
 use crate::verdict::{self, Word};
 
 /// How many things found are shown; a record can break one rule in a great many places.

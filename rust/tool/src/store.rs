@@ -8,8 +8,8 @@ use std::process;
 use std::time::SystemTime;
 
 use crate::closed;
-use crate::input;
-use crate::output::{shown, Output};
+use crate::output::Output;
+use crate::paths::{is_standard, shown};
 
 /// How many names are tried for a temporary file.
 const NAMES: usize = 100;
@@ -55,7 +55,7 @@ impl Target {
     /// The place that a path names, if a record may be put there: standard output unless it is closed or a terminal, a name
     /// that is not taken or, with `force`, a file.
     fn of(path: &Path, force: bool) -> io::Result<Target> {
-        if input::is_standard(path) {
+        if is_standard(path) {
             closed::fail_if_closed()?;
             return match io::stdout().is_terminal() {
                 true => Err(io::Error::other("a record is not written to a terminal")),

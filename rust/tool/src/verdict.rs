@@ -2,17 +2,16 @@
 
 use std::fmt;
 
-use scp::{Pointer, Refusal, SAMPLES_MAX};
+use scp::{Lead, Pointer, Refusal, SAMPLES_MAX};
 use serde::Serialize;
 
-use crate::commands::leads::how_many;
 use crate::input::Size;
-use crate::json;
+use crate::text::how_many;
 
 /// The last refusal that all leads have alike.
 const OF_ALL: Refusal = Refusal::ABSENT;
 
-/// So many samples most beats have at most.
+/// Most beats have no more samples than this.
 const MOST_BEATS: usize = 2048;
 
 /// A verdict in a word.
@@ -30,7 +29,7 @@ pub enum Word {
 /// What was judged.
 #[derive(Clone, Copy, Debug, PartialEq, Eq)]
 pub enum Verdict {
-    /// It opens, and so many leads are read: none, where it has neither Section 3 nor Section 6.
+    /// It opens, and this many leads are read: none, where it has neither Section 3 nor Section 6.
     Accepted { leads: usize },
     /// It is refused, or a lead of it at this place is, the first one.
     Refused {
@@ -55,15 +54,15 @@ impl Default for Room {
 }
 
 impl Room {
-    /// Reads a lead. Its samples are left where they are. All that is lent for a beat is cleared, so that little is lent
-    /// first, and all if that is too little.
-    pub fn read(&mut self, record: &[u8], place: usize) -> Result<(), Refusal> {
-        let mut read =
-            |work: &mut [i16]| scp::read_lead(record, place, &mut self.out, work).map(|_| ());
-        match read(&mut self.work[..MOST_BEATS]) {
+    /// Reads a lead and its samples. All that is lent for a beat is cleared, so that little is lent first, and all if that is
+    /// too little.
+    pub fn read(&mut self, record: &[u8], place: usize) -> Result<(Lead, &[i16]), Refusal> {
+        let mut read = |work: &mut [i16]| scp::read_lead(record, place, &mut self.out, work);
+        let lead = match read(&mut self.work[..MOST_BEATS]) {
             Err(Refusal::ROOM) => read(&mut self.work),
             answer => answer,
-        }
+        }?;
+        Ok((lead, &self.out[..lead.count]))
     }
 }
 
@@ -96,14 +95,6 @@ impl Verdict {
         match self {
             Verdict::Accepted { .. } => None,
             Verdict::Refused { lead, .. } => *lead,
-        }
-    }
-
-    /// How many leads a record has that was accepted, as JSON.
-    pub fn lead_count(&self) -> Option<json::Counted> {
-        match self {
-            Verdict::Accepted { leads } => Some(json::Counted { lead_count: *leads }),
-            Verdict::Refused { .. } => None,
         }
     }
 

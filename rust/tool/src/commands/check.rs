@@ -14,10 +14,12 @@ use crate::input::{self, Size};
 use crate::interrupt;
 use crate::json;
 use crate::ordered::Ordered;
-use crate::output::{reason, shown, Output};
+use crate::output::Output;
+use crate::paths::shown;
 use crate::refused::{self, Refused};
 use crate::status::Status;
 use crate::tally::Tally;
+use crate::text::reason;
 use crate::verdict::{Room, Verdict};
 
 /// What a terminal shows until the files are counted, and the bar that it shows afterwards.
@@ -61,7 +63,7 @@ struct Judged {
     refused: Option<Refused>,
 }
 
-/// Checks all files of these paths, so many at a time; the worst of them is the status.
+/// Checks all files of these paths, this many at a time; the worst of them is the status.
 pub fn run(paths: &[PathBuf], asked: Asked, jobs: Option<u16>, output: &mut Output) -> Status {
     let jobs = match jobs {
         Some(jobs) => jobs.into(),
@@ -205,7 +207,7 @@ fn as_text(file: &Path, judged: &Judged) -> String {
 fn as_json(file: &Path, judged: &Judged) -> String {
     let about = json::About::judged(file, judged.size, judged.refused.as_ref());
     let about = about.of_lead(judged.verdict.lead());
-    json::line(&about.holding(judged.verdict.lead_count()))
+    json::line(&about.holding(json::Counted::of(judged.verdict)))
 }
 
 /// Shows how many files were accepted, refused with each number, and not read. The worst of them is the status.

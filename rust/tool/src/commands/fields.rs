@@ -5,15 +5,18 @@ use std::path::Path;
 
 use scp::Field;
 
+use super::given::read_or_complain;
 use crate::escape;
-use crate::input::{read_or_complain, Input};
+use crate::input::Input;
 use crate::json;
 use crate::names;
-use crate::output::{hex, shown, Output};
+use crate::output::Output;
+use crate::paths::shown;
 use crate::reading::{Reading, Value};
 use crate::refused::Refused;
 use crate::status::Status;
 use crate::table::{self, numbers, words, Column};
+use crate::text::hex;
 
 const COLUMNS: [Column; 5] = [
     numbers("Tag"),

@@ -4,13 +4,16 @@ use std::path::Path;
 
 use scp::Entry;
 
-use crate::input::{read_or_complain, Input};
+use super::given::read_or_complain;
+use crate::input::Input;
 use crate::json::{self, bits_in_hundredths};
 use crate::names;
-use crate::output::{shown, Output};
+use crate::output::Output;
+use crate::paths::shown;
 use crate::refused::Refused;
 use crate::status::Status;
 use crate::table::{self, numbers, words, Column};
+use crate::text::how_many;
 
 const COLUMNS: [Column; 10] = [
     numbers("Place"),
@@ -72,15 +75,6 @@ fn show(file: &Path, leads: &[Entry], output: &mut Output) {
         .map(|(place, entry)| row(place, entry))
         .collect();
     output.lines(table::lines(&COLUMNS, &rows));
-}
-
-/// So many leads, in words.
-pub fn how_many(leads: usize) -> String {
-    match leads {
-        0 => "no lead".to_string(),
-        1 => "1 lead".to_string(),
-        leads => format!("{leads} leads"),
-    }
 }
 
 /// The flags, which all leads share.

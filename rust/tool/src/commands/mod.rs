@@ -3,6 +3,7 @@
 pub mod check;
 pub mod completions;
 pub mod fields;
+mod given;
 pub mod leads;
 pub mod man;
 pub mod open;

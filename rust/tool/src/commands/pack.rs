@@ -6,15 +6,18 @@ use std::path::Path;
 
 use scp::{Entry, Pointer, Refusal};
 
+use super::given::read_or_complain;
 use super::write::say;
-use crate::input::{is_standard, read_or_complain, Input};
+use crate::input::Input;
 use crate::making::{Making, DEFAULT_TABLE, HEADER};
 use crate::names;
-use crate::output::{parted, shown, shown_target, Output};
+use crate::output::Output;
+use crate::paths::{is_standard, shown, shown_target};
 use crate::refused::Refused;
 use crate::status::Status;
 use crate::store::{Target, Traits};
 use crate::table::{self, numbers, words, Column};
+use crate::text::parted;
 
 const COLUMNS: [Column; 5] = [
     numbers("Place"),

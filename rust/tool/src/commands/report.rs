@@ -4,11 +4,13 @@ use std::path::Path;
 
 use scp::{Entry, Refusal};
 
+use super::given::read_or_complain;
 use crate::explain::{self, Looked};
-use crate::input::{read_or_complain, Input};
+use crate::input::Input;
 use crate::json;
 use crate::names;
-use crate::output::{shown, Output};
+use crate::output::Output;
+use crate::paths::shown;
 use crate::refused::{self, Refused};
 use crate::status::Status;
 use crate::table::{self, numbers, words, Column};
@@ -253,7 +255,7 @@ impl<'a> Report<'a> {
             json::Lead::new(lead.place, &lead.entry).answered(refused.as_ref())
         };
         let report = json::Report {
-            counted: self.verdict.lead_count(),
+            counted: json::Counted::of(self.verdict),
             rules: self.answers.iter().map(rule).collect(),
             leads: self.leads.iter().map(lead).collect(),
             caution: self.caution(),

@@ -3,15 +3,18 @@
 use std::io::{self, Write};
 use std::path::Path;
 
-use scp::{Entry, Refusal};
+use scp::{Entry, Lead, Refusal};
 
-use super::leads::how_many;
-use crate::input::{read_or_complain, Input};
+use super::given::read_or_complain;
+use crate::input::Input;
 use crate::json;
 use crate::names;
-use crate::output::{shown, Output};
+use crate::output::Output;
+use crate::paths::shown;
 use crate::refused::{self, Refused};
 use crate::status::Status;
+use crate::text::how_many;
+use crate::verdict::Room;
 
 /// How many samples stand in a line of text.
 const SAMPLES_A_LINE: usize = 10;
@@ -38,17 +41,29 @@ impl Form {
     }
 }
 
+/// The leads that were asked for.
+struct Asked {
+    leads: Vec<Read>,
+    /// How many leads the record has.
+    all: usize,
+}
+
 /// A lead that was asked for: what the record says of it, and its samples or its own refusal.
 struct Read {
     place: usize,
-    entry: Entry,
+    lead: Lead,
     samples: Result<Vec<i16>, Refusal>,
 }
 
 impl Read {
     /// Its place and name in a sentence.
     fn title(&self) -> String {
-        format!("Lead {}, {}", self.place, names::lead(self.entry.id))
+        format!("Lead {}, {}", self.place, names::lead(self.lead.id))
+    }
+
+    /// The number of its last sample.
+    fn last(&self) -> u32 {
+        self.lead.first + (self.lead.count as u32 - 1)
     }
 }
 
@@ -58,18 +73,17 @@ pub fn run(file: &Path, place: Option<usize>, form: Form, output: &mut Output) -
         return Status::NotDone;
     };
     output.block();
-    match read(&input.bytes, place) {
-        Ok(leads) => {
-            match form {
-                Form::Text => as_text(file, &input, &leads, output),
-                Form::Csv => as_csv(file, &input, &leads, output),
-                Form::Json => output.line(json::text(&as_json(file, &input, &leads))),
-            }
-            match leads.iter().all(|lead| lead.samples.is_ok()) {
-                true => Status::Accepted,
-                false => Status::Refused,
-            }
+    let shown = read(&input.bytes, place).and_then(|asked| {
+        match form {
+            Form::Text => as_text(file, &input, &asked, output),
+            Form::Csv => as_csv(file, &input, &asked.leads, output),
+            Form::Json => output.line(json::text(&as_json(file, &input, &asked.leads)?)),
         }
+        Ok(asked.leads.iter().all(|lead| lead.samples.is_ok()))
+    });
+    match shown {
+        Ok(true) => Status::Accepted,
+        Ok(false) => Status::Refused,
         Err(refusal) => {
             let refused = Refused::of(&input, place.unwrap_or(1), refusal);
             refuse(file, &input, &refused, form, output);
@@ -78,18 +92,38 @@ pub fn run(file: &Path, place: Option<usize>, form: Form, output: &mut Output) -
     }
 }
 
-/// Reads the lead at a place, or all of them. What refuses the record refuses all; 12 to 14 refuse one lead.
-fn read(record: &[u8], place: Option<usize>) -> Result<Vec<Read>, Refusal> {
-    let entries = match place {
-        Some(place) => vec![(place, scp::lead(record, place)?)],
-        None => (1..).zip(scp::leads(record)?).collect(),
+/// Reads the lead at a place, or all of them. What refuses the record refuses all; 12 to 14 refuse one lead. The library
+/// judges the whole record whenever it is asked for a lead, so that each is asked for once.
+fn read(record: &[u8], place: Option<usize>) -> Result<Asked, Refusal> {
+    let all = scp::lead(record, place.unwrap_or(1))?.leads;
+    let places = place.map_or(1..=all, |place| place..=place);
+    let mut room = Room::default();
+    let read = |place| {
+        let (lead, samples) = match room.read(record, place) {
+            Ok((lead, samples)) => (lead, Ok(samples.to_vec())),
+            // nothing is said of a lead with its refusal
+            Err(refusal) => (unread(&scp::lead(record, place)?), Err(refusal)),
+        };
+        Ok(Read {
+            place,
+            lead,
+            samples,
+        })
     };
-    let read = |(place, entry)| Read {
-        place,
-        entry,
-        samples: scp::samples(record, place).map(|(_, samples)| samples),
-    };
-    Ok(entries.into_iter().map(read).collect())
+    let leads = places.map(read).collect::<Result<_, _>>()?;
+    Ok(Asked { leads, all })
+}
+
+/// A lead as its entry has it.
+fn unread(entry: &Entry) -> Lead {
+    Lead {
+        id: entry.id,
+        flags: entry.flags,
+        step: entry.step,
+        interval: entry.interval,
+        first: entry.first,
+        count: entry.count(),
+    }
 }
 
 /// Shows that a record is refused, or has not the lead that was asked for.
@@ -106,9 +140,9 @@ fn refuse(file: &Path, input: &Input, refused: &Refused, form: Form, output: &mu
 
 // ---- text
 
-fn as_text(file: &Path, input: &Input, leads: &[Read], output: &mut Output) {
-    output.line(format_args!("{}: {}", shown(file), summary(leads)));
-    for lead in leads {
+fn as_text(file: &Path, input: &Input, asked: &Asked, output: &mut Output) {
+    output.line(format_args!("{}: {}", shown(file), summary(asked)));
+    for lead in &asked.leads {
         output.block();
         match &lead.samples {
             Ok(samples) => show(lead, samples, output),
@@ -119,17 +153,16 @@ fn as_text(file: &Path, input: &Input, leads: &[Read], output: &mut Output) {
             }
         }
     }
-    if leads.iter().any(|lead| lead.samples.is_err()) {
+    if asked.leads.iter().any(|lead| lead.samples.is_err()) {
         refused::footnote(output);
     }
 }
 
 /// How many leads were accepted, and how many were not.
-fn summary(leads: &[Read]) -> String {
+fn summary(Asked { leads, all }: &Asked) -> String {
     let refused = leads.iter().filter(|lead| lead.samples.is_err()).count();
-    let all = leads.first().map_or(0, |lead| lead.entry.leads);
-    let asked = match leads {
-        [lead] if all > 1 => format!("lead {} of {all}", lead.place),
+    let asked = match &leads[..] {
+        [lead] if *all > 1 => format!("lead {} of {all}", lead.place),
         leads => how_many(leads.len()),
     };
     match refused {
@@ -141,13 +174,13 @@ fn summary(leads: &[Read]) -> String {
 
 /// Shows a lead's samples, some in a line, each line with the number of its first.
 fn show(lead: &Read, samples: &[i16], output: &mut Output) {
-    let Entry {
+    let Lead {
         first,
-        last,
         step,
         interval,
         ..
-    } = lead.entry;
+    } = lead.lead;
+    let last = lead.last();
     output.line(format_args!(
         "{}: samples {first} to {last}, in steps of {step} nV, {interval} us apart",
         lead.title()
@@ -200,9 +233,9 @@ fn write_csv(leads: &[Read], to: &mut impl Write) -> io::Result<()> {
 
 /// A column's head: the lead's place and name, and what a sample of 1 stands for, or its refusal.
 fn column(lead: &Read) -> String {
-    let (place, id) = (lead.place, lead.entry.id);
+    let (place, id) = (lead.place, lead.lead.id);
     match &lead.samples {
-        Ok(_) => names::column(place, id, lead.entry.step),
+        Ok(_) => names::column(place, id, lead.lead.step),
         Err(refusal) => format!("{place} {} (refused {})", names::lead(id), refusal.number()),
     }
 }
@@ -210,7 +243,7 @@ fn column(lead: &Read) -> String {
 /// A lead's sample of this number; nothing if it has none.
 fn cell(lead: &Read, number: u32) -> String {
     let sample = number
-        .checked_sub(lead.entry.first)
+        .checked_sub(lead.lead.first)
         .zip(lead.samples.as_ref().ok())
         .and_then(|(place, samples)| samples.get(place as usize));
     sample.map_or_else(String::new, i16::to_string)
@@ -219,9 +252,7 @@ fn cell(lead: &Read, number: u32) -> String {
 /// The sample numbers that some lead has which was read, rising. Spans may lie far apart, so gaps are not walked over.
 fn sample_numbers(leads: &[Read]) -> impl Iterator<Item = u32> {
     let read = leads.iter().filter(|lead| lead.samples.is_ok());
-    let mut spans: Vec<(u32, u32)> = read
-        .map(|lead| (lead.entry.first, lead.entry.last))
-        .collect();
+    let mut spans: Vec<(u32, u32)> = read.map(|lead| (lead.lead.first, lead.last())).collect();
     spans.sort();
     let mut joined: Vec<(u32, u32)> = Vec::new();
     for (first, last) in spans {
@@ -243,8 +274,15 @@ fn reason(error: csv::Error) -> io::Error {
 
 // ---- JSON
 
-/// The refusal of the first lead that is refused stands for the record.
-fn as_json(file: &Path, input: &Input, leads: &[Read]) -> json::About<json::Rhythm> {
+/// The record has the refusal of the first lead that is refused. The entries are asked for, since JSON has all of them:
+/// the order of the differences and the bytes of the streams, too.
+fn as_json(
+    file: &Path,
+    input: &Input,
+    leads: &[Read],
+) -> Result<json::About<json::Rhythm>, Refusal> {
+    let entry = |lead: &Read| scp::lead(&input.bytes, lead.place);
+    let entries: Vec<Entry> = leads.iter().map(entry).collect::<Result<_, _>>()?;
     let refused = |lead: &Read| {
         let refusal = *lead.samples.as_ref().err()?;
         Some(Refused::of(input, lead.place, refusal))
@@ -253,21 +291,22 @@ fn as_json(file: &Path, input: &Input, leads: &[Read]) -> json::About<json::Rhyt
         .iter()
         .find_map(|lead| Some((lead.place, refused(lead)?)));
     let (place, first) = first.unzip();
-    let lead = |lead: &Read| {
-        let told = json::Lead::new(lead.place, &lead.entry).answered(refused(lead).as_ref());
+    let lead = |(lead, entry): (&Read, &Entry)| {
+        let told = json::Lead::new(lead.place, entry).answered(refused(lead).as_ref());
         match &lead.samples {
             Ok(samples) => told.with(samples),
             Err(_) => told,
         }
     };
-    let rhythm = json::Rhythm::new(&leads[0].entry, leads.iter().map(lead).collect());
+    let told = leads.iter().zip(&entries).map(lead).collect();
+    let rhythm = json::Rhythm::new(&entries[0], told);
     let about = json::About::judged(file, input.size, first.as_ref()).of_lead(place);
-    about.holding(Some(rhythm)).noted()
+    Ok(about.holding(Some(rhythm)).noted())
 }
 
 #[cfg(test)]
 mod tests {
-    use scp::Entry;
+    use scp::Lead;
 
     use super::{cell, sample_numbers, write_csv, Read};
 
@@ -275,16 +314,13 @@ mod tests {
     fn lead(place: usize, first: u32, samples: &[i16]) -> Read {
         Read {
             place,
-            entry: Entry {
+            lead: Lead {
                 id: place as u8,
                 flags: 0,
-                order: 0,
                 step: 5000,
                 interval: 2000,
                 first,
-                last: first + (samples.len() as u32 - 1),
-                leads: 2,
-                bytes: 2,
+                count: samples.len(),
             },
             samples: Ok(samples.to_vec()),
         }

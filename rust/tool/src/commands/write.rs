@@ -4,14 +4,15 @@ use std::path::Path;
 
 use scp::Refusal;
 
-use super::leads::how_many;
 use crate::explain;
 use crate::job;
 use crate::making::Making;
-use crate::output::{parted, shown, shown_target, Output};
+use crate::output::Output;
+use crate::paths::{shown, shown_target};
 use crate::refused;
 use crate::status::Status;
 use crate::store::{Target, Traits};
+use crate::text::{how_many, parted};
 
 /// Makes a record from a job, and puts it where it is asked for.
 pub fn run(file: &Path, out: &Path, force: bool, output: &mut Output) -> Status {

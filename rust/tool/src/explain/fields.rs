@@ -1,16 +1,9 @@
 //! Row 6: the fields of Section 1.
 
-use judge::{FieldFault, Finding, Part};
+use judge::{FieldFault, Finding};
 
-use super::numbers::counted;
-
-/// The tag of the field that a finding is in.
-pub fn tag(finding: &Finding) -> u8 {
-    match finding.part {
-        Part::Field(tag) => tag,
-        _ => 0,
-    }
-}
+use super::subject::tag;
+use crate::text::counted;
 
 pub fn words(finding: &Finding, fault: &FieldFault) -> String {
     let tag = tag(finding);

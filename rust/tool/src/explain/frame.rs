@@ -2,10 +2,10 @@
 
 use judge::{row, Finding, FrameFault};
 
-use super::{section, Subject};
+use super::subject::{section, Subject};
 use crate::input::Size;
 use crate::names;
-use crate::output::hex;
+use crate::text::hex;
 
 /// The fewest bytes that a record has.
 const RECORD_MIN: u64 = 142;
@@ -17,14 +17,7 @@ pub fn words(finding: &Finding, fault: &FrameFault, subject: Subject) -> String 
             Subject::Record(size) => length(size, field),
             Subject::Job(_) => String::new(),
         },
-        FrameFault::Check { stored, computed } => {
-            let words =
-                format!("the CRC stored is 0x{stored:04X}, and the bytes give 0x{computed:04X}");
-            match finding.section {
-                Some(id) => format!("{name}, {}: {words}", names::section(id)),
-                None => words,
-            }
-        }
+        FrameFault::Check { stored, computed } => check(finding, stored, computed),
         FrameFault::Letters(found) => {
             format!("bytes 17 to 22 are {}, not the letters SCPECG", hex(&found))
         }
@@ -62,6 +55,15 @@ fn length(size: Size, field: Option<u32>) -> String {
     match field {
         Some(field) => format!("the length is {size}{outside}; the size field says {field}"),
         None => format!("the length is {size}{outside}; there is no size field (bytes 3 to 6)"),
+    }
+}
+
+/// A CRC that is not that of its bytes.
+fn check(finding: &Finding, stored: u16, computed: u16) -> String {
+    let words = format!("the CRC stored is 0x{stored:04X}, and the bytes give 0x{computed:04X}");
+    match finding.section {
+        Some(id) => format!("{}, {}: {words}", section(finding), names::section(id)),
+        None => words,
     }
 }
 

@@ -2,7 +2,7 @@
 
 use judge::{Finding, LeadFault, What, ZoneFault};
 
-use super::section;
+use super::subject::section;
 
 pub fn words(finding: &Finding, fault: &LeadFault) -> String {
     let name = section(finding);

@@ -9,6 +9,7 @@ mod frame;
 mod leads;
 mod numbers;
 mod streams;
+mod subject;
 mod tables;
 
 use judge::{Fault, Finding, Part, What};
@@ -17,7 +18,8 @@ use scp::Refusal;
 use crate::input::{Input, Size};
 use crate::making::Making;
 use crate::names;
-use crate::output;
+use crate::text;
+use subject::Subject;
 
 /// What is said of a refusal that no record and no job can be the reason of.
 const ROOM: &str = "the tool lent too small a buffer, which is a fault of its own";
@@ -41,13 +43,6 @@ impl<'a> Looked<'a> {
             place,
         }
     }
-}
-
-/// What findings are about: a record of this size, or a job.
-#[derive(Clone, Copy)]
-enum Subject<'a> {
-    Record(Size),
-    Job(&'a Making),
 }
 
 /// What was found in a record that was refused, a line for each thing; at least one.
@@ -121,7 +116,7 @@ fn line(finding: &Finding, subject: Subject) -> String {
     let words = parted(finding, words(finding, subject));
     match (subject, finding.offset) {
         (Subject::Record(_), Some(offset)) => {
-            let byte = output::parted(&format!("byte {offset}"));
+            let byte = text::parted(&format!("byte {offset}"));
             format!("{words} ({byte})")
         }
         _ => words,
@@ -135,7 +130,7 @@ fn parted(finding: &Finding, words: String) -> String {
         | Fault::Number {
             what: What::Tables, ..
         } => words,
-        _ => output::parted(&words),
+        _ => text::parted(&words),
     }
 }
 
@@ -178,12 +173,6 @@ fn prefix(finding: &Finding, subject: Subject) -> String {
         },
         Part::Whole | Part::Pointer(_) | Part::Field(_) | Part::Table(_) => String::new(),
     }
-}
-
-/// The section that a finding is in, as a sentence has it.
-fn section(finding: &Finding) -> String {
-    let id = finding.section.unwrap_or_default();
-    format!("Section {id}")
 }
 
 #[cfg(test)]

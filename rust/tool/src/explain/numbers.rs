@@ -4,8 +4,8 @@ use std::ops::RangeInclusive;
 
 use judge::{Finding, Needs, Part, What};
 
-use super::fields::tag;
-use super::section;
+use super::subject::{section, tag};
+use crate::text::counted;
 
 /// A number outside its bounds.
 pub fn number(finding: &Finding, what: What, found: i64, expected: &RangeInclusive<i64>) -> String {
@@ -86,14 +86,6 @@ fn bounds(expected: &RangeInclusive<i64>) -> String {
         (0, 1) => "not 0 or 1".to_string(),
         (0, most) if most > 2 => format!("over {most}"),
         (least, most) => format!("not {least} to {most}"),
-    }
-}
-
-/// So many things.
-pub fn counted(count: usize, thing: &str) -> String {
-    match count {
-        1 => format!("1 {thing}"),
-        _ => format!("{count} {thing}s"),
     }
 }
 

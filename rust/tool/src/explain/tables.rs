@@ -2,7 +2,7 @@
 
 use judge::CodeFault;
 
-use super::numbers::counted;
+use crate::text::counted;
 
 pub fn words(fault: &CodeFault) -> String {
     match fault {

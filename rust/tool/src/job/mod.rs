@@ -13,10 +13,10 @@ use std::path::{Path, PathBuf};
 
 use serde::{Deserialize, Deserializer};
 
-use crate::input;
 use crate::making::{Making, DEFAULT_TABLE};
 use crate::names;
-use crate::output::shown;
+use crate::paths::{is_standard, shown};
+use crate::text::reason;
 use number::Number;
 use trace::Trace;
 
@@ -42,10 +42,10 @@ struct Job {
 
 /// Reads a job and the samples beside it. What is wrong, with the name of the file, if it cannot be understood.
 pub fn read(file: &Path) -> Result<Making, String> {
-    let text = read_text(file).map_err(|error| told(file, &crate::output::reason(&error)))?;
+    let text = read_text(file).map_err(|error| told(file, &reason(&error)))?;
     let job: Job =
         serde_json::from_slice(&text).map_err(|error| told(file, &with_place(&error)))?;
-    let samples = match (input::is_standard(file), file.parent()) {
+    let samples = match (is_standard(file), file.parent()) {
         (false, Some(folder)) => folder.join(&job.samples),
         _ => job.samples.clone(),
     };
@@ -59,7 +59,7 @@ fn told(file: &Path, words: &str) -> String {
 }
 
 fn read_text(file: &Path) -> io::Result<Vec<u8>> {
-    let source: Box<dyn Read> = match input::is_standard(file) {
+    let source: Box<dyn Read> = match is_standard(file) {
         true => Box::new(io::stdin().lock()),
         false => Box::new(File::open(file)?),
     };
@@ -201,13 +201,8 @@ impl TryFrom<String> for Hex {
     fn try_from(text: String) -> Result<Hex, String> {
         let mut bytes = Vec::new();
         for word in text.split_ascii_whitespace() {
-            let digits: Option<Vec<u8>> = word
-                .chars()
-                .map(|letter| letter.to_digit(16).map(|digit| digit as u8))
-                .collect();
-            let digits = digits.filter(|digits| digits.len() % 2 == 0);
-            let digits = digits.ok_or_else(|| format!("{word:?} is not pairs of hex digits"))?;
-            bytes.extend(digits.chunks(2).map(|pair| pair[0] << 4 | pair[1]));
+            let pairs = hex::decode(word);
+            bytes.extend(pairs.map_err(|_| format!("{word:?} is not pairs of hex digits"))?);
         }
         Ok(Hex(bytes))
     }

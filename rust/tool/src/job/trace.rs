@@ -7,7 +7,7 @@ use std::str::FromStr;
 
 use csv::StringRecord;
 
-use crate::output::reason;
+use crate::text::reason;
 
 /// The head of the column of sample numbers.
 const NUMBERS: &str = "sample";

@@ -1,0 +1,55 @@
+//! The summary of many files.
+
+use std::collections::BTreeMap;
+
+use serde::Serialize;
+
+use crate::refused;
+use crate::tally::Tally;
+
+/// How many files fared how, as the last line of many.
+#[derive(Serialize)]
+pub struct Summary {
+    summary: Counts,
+    #[serde(skip_serializing_if = "Option::is_none")]
+    note: Option<&'static str>,
+}
+
+#[derive(Serialize)]
+struct Counts {
+    files: usize,
+    accepted: usize,
+    refused: usize,
+    unread: usize,
+    interrupted: bool,
+    passed_over: PassedOver,
+    by_number: BTreeMap<u8, usize>,
+}
+
+/// Entries of folders that were passed over.
+#[derive(Serialize)]
+struct PassedOver {
+    links: usize,
+    special_files: usize,
+}
+
+impl Summary {
+    /// The summary of these.
+    pub fn new(tally: &Tally) -> Summary {
+        Summary {
+            summary: Counts {
+                files: tally.files(),
+                accepted: tally.accepted,
+                refused: tally.refused(),
+                unread: tally.not_read,
+                interrupted: tally.is_interrupted,
+                passed_over: PassedOver {
+                    links: tally.links,
+                    special_files: tally.special_files,
+                },
+                by_number: tally.by_number().collect(),
+            },
+            note: (tally.refused() > 0).then_some(refused::NOTE),
+        }
+    }
+}
