@@ -47,16 +47,19 @@ has_rust() {
     [ "${minor:-0}" -ge 85 ]
 }
 
-# Prints the names of the packages that are missing.
+# Prints the names of the packages that are missing. The checks of style, which only ./test makes ($checks_style), need some more.
 missing_packages() {
     wanted='librust-clap-dev librust-clap-complete-dev librust-csv-dev librust-hex-dev librust-indicatif-dev'
-    wanted="$wanted librust-serde-derive-dev librust-serde-json-dev librust-signal-hook-dev librust-walkdir-dev shellcheck"
+    wanted="$wanted librust-serde-derive-dev librust-serde-json-dev librust-signal-hook-dev librust-walkdir-dev"
     if is_native; then
         has_rust || wanted="$wanted cargo-web rustc-web"
-        has_command cargo-fmt || { has_rust && ! has_package rustc-web; } || wanted="$wanted rustfmt-web"
         has_command gcc || wanted="$wanted gcc libc6-dev"
     else
-        wanted="$wanted cargo-web rustc-web rustfmt-web gcc-x86-64-linux-gnu libc6-dev-amd64-cross qemu-user"
+        wanted="$wanted cargo-web rustc-web gcc-x86-64-linux-gnu libc6-dev-amd64-cross qemu-user"
+    fi
+    if [ -n "${checks_style:-}" ]; then
+        wanted="$wanted shellcheck"
+        if ! is_native || ! has_rust; then wanted="$wanted rustfmt-web"; fi
     fi
     for package in $wanted; do
         has_package "$package" || echo "$package"
