@@ -77,7 +77,8 @@ pub fn seen(looked: &Looked, refusal: Refusal) -> Vec<String> {
 
 /// That a file does not look like an SCP-ECG record, if it lacks the letters that each has.
 pub fn foreign(record: &[u8]) -> Option<String> {
-    let words = "it does not look like an SCP-ECG record: bytes 17 to 22 are not the letters SCPECG";
+    let words =
+        "it does not look like an SCP-ECG record: bytes 17 to 22 are not the letters SCPECG";
     (!judge::has_letters(record)).then(|| words.to_string())
 }
 
