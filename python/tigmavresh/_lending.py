@@ -33,7 +33,7 @@ def record_of(data: Bytes) -> bytes:
 
 
 def number(name: str, value: Any, bits: int) -> int:
-    """A whole number that fits so many bits."""
+    """A whole number that fits this many bits."""
     value = operator.index(value)
     if not 0 <= value < 1 << bits:
         raise OverflowError(f"{name}: {value} is outside 0 to {(1 << bits) - 1}")

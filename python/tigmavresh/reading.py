@@ -18,7 +18,7 @@ except ImportError:
 
 Samples = Union["numpy.ndarray", "array[int]"]
 
-# Where the first field of Section 1 stands: just after the section's header.
+# Where the first field of Section 1 is: just after the section's header.
 _FIRST_FIELD = 16
 
 # The bit of the flags that tells of a reference beat.
@@ -30,7 +30,7 @@ class Pointer(NamedTuple):
 
     id: The section's number.
     length: The section's bytes with its header; 0 if it is absent.
-    index: Where its first byte stands in the record, counted from 1. Any number if it is absent.
+    index: Where its first byte is in the record, counted from 1. Any number if it is absent.
     """
 
     id: int

@@ -60,7 +60,7 @@ enum {
 /* The most leads that a record has. */
 #define SCP_LEADS_MAX 32
 
-/* The most tables that Section 2 has: so many bytes of work space for each sample to be coded are always enough. */
+/* The most tables that Section 2 has. One byte of work space for each of these and each sample is always enough. */
 #define SCP_TABLES_MAX 8
 
 /* The most bytes that a lead's stream has: so much room for one is always enough. */
@@ -136,8 +136,8 @@ uint8_t scp_same_identifier(const uint8_t *a, size_t an, const uint8_t *b, size_
 ScpPart scp_walk_start(const uint8_t *record, size_t n);
 
 /*
- * Shows the field that stands at `at` in a section, which holds its header: the first is at 16. The walk ends at the
- * end mark, at any other tag 255, and where no whole field stands. The section is not judged; any bytes and any place
+ * Shows the field at `at` in a section, which holds its header: the first is at 16. The walk ends at the
+ * end mark, at any other tag 255, and where there is no whole field. The section is not judged; any bytes and any place
  * may be given. Never refused.
  */
 ScpStep scp_walk_step(const uint8_t *section, size_t n, size_t at);
