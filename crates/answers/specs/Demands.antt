@@ -1,6 +1,6 @@
 -- The customer's three demands, stated in full over what the contracts of the public calls say (crates/scp/src/lib.rt; `field` of
 -- crates/fields; the walker): the right sides of their equations, and the relations LeadEncoding and RecordWriting. 01 cites the demands
--- by number; their own words stand here behind a ">", each clause above the lines that state it.
+-- by number; their own words are quoted here behind a ">", each clause above the lines that state it.
 --
 -- The names below. r is the bytes of a record, and `place` a lead's place in it, from 1. s2 is Section 2's data as the writer is given
 -- them, xs a lead's samples, j a job. `work` and `out` are the work space and the output before a call; a is what the call answered, w
@@ -193,7 +193,7 @@ pub record Demand2 : Type 0 where
   -- A record that keeps rows 1 to 6 is opened, and each pointer answered as stored
   pub opened : (r lent : List ℕ) → AllKept (rowsOpened r)
       → (openRefusal r ≡ 0) × (openCount r ≡ countOf r) × (openNumbers r lent ≡ pointersFrom r 0 (countOf r) ++ drop (3 * countOf r) lent)
-  -- and every field that stands in its Section 1 is shown, byte for byte
+  -- and every field of its Section 1 is shown, byte for byte
   pub shown : (r : List ℕ) (tag k : ℕ) (f : Field) → AllKept (rowsOpened r)
       → occurring k (withTag tag (fieldsFrom (sectionOf r 1) dataAt)) ≡ Found f
       → (refusalOf (fieldPlace r tag k) ≡ 0) × (partBytes r (fieldPlace r tag k) ≡ part r (startOf r 1 + f .start) (startOf r 1 + f .end))

@@ -9,17 +9,18 @@ use lib.ListN.{getD}
 use Rattle.entries.specs.Section4.{fiducialOf, qrsCount, qrsType, zoneBegin, qrsFiducial, zoneEnd}
 use Rattle.samples.specs.Trace.{Trace, rebuilt, afterSample}
 
--- sample n stands in zone k, which is of type 0
+-- sample n lies in zone k, which is of type 0
 unfoldable pub inZone : List ℕ → ℕ → ℕ → Bool
 inZone s k n = eqb (qrsType s k) 0 && (leb (zoneBegin s k) n && leb n (zoneEnd s k))
 
--- the number, from 1, of the beat's sample that sample n gets, by the first of so many zones from k on that it stands in: n - C + F. In
--- a section that keeps its rule this is 1 or more for every n of a zone, and is never cut off at 0; so 0 says that n stands in no zone
+-- the number, from 1, of the beat's sample that sample n gets, by the first zone that it lies in among this many zones from k on: n -
+-- C + F. In a section that keeps its rule this is 1 or more for every n of a zone, and is never cut off at 0; so 0 says that n lies in
+-- no zone
 unfoldable pub beatPlaceFrom : List ℕ → ℕ → ℕ → ℕ → ℕ
 beatPlaceFrom s zero k n = 0
 beatPlaceFrom s (suc zones) k n = cond (inZone s k n) (n + fiducialOf s - qrsFiducial s k) (beatPlaceFrom s zones (k + 1) n)
 
--- the same by all zones of the section. Zones of type 0 do not overlap, so that sample n stands in one at most; no other type adds
+-- the same by all zones of the section. Zones of type 0 do not overlap, so that sample n lies in at most one; no other type adds
 -- anything
 unfoldable pub beatPlace : List ℕ → ℕ → ℕ
 beatPlace s n = beatPlaceFrom s (qrsCount s) 0 n

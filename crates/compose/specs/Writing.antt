@@ -17,8 +17,8 @@ use Rattle.encode.specs.Encoding.{tablesGiven, tablesGivenRight, workRight, Sea
 use Rattle.compose.specs.declared.Written.{Written}
 use Rattle.compose.specs.declared.Head.{Head}
 
--- a job is what the writer is given: Section 1's data with their end mark, Section 2's (empty: none), the numbers that stand for all
--- leads, and the leads, whose samples stand one after another
+-- a job is the writer's input: Section 1's data with their end mark, Section 2's (empty: none), the numbers that apply to all leads,
+-- and the leads, whose samples follow one another
 pub record Job : Type 0 where
   pub section1 : List ℕ
   pub section2 : List ℕ
@@ -32,7 +32,7 @@ pub record Job : Type 0 where
   pub ids : List ℕ
   pub samples : List ℤ
 
--- a job as it is lent: Sections 1 and 2, the numbers that stand for all leads, then the leads' lists
+-- a job as it is lent: Sections 1 and 2, the numbers that apply to all leads, then the leads' lists
 abbrev pub jobOf : List ℕ → List ℕ → Head → List ℕ → List ℕ → List ℕ → List ℤ → Job
 jobOf s1 s2 head firsts counts ids xs = record {
   section1 = s1;

@@ -1,5 +1,5 @@
--- Encoding one lead (the customer's third demand, whose words stand in crates/answers/specs/Demands.antt; 01, Numbers that bound the
--- work; 01, Refusal numbers 7, 11 and 15 to 17 and the paragraphs under the table).
+-- Encoding one lead (the customer's third demand, quoted in crates/answers/specs/Demands.antt; 01, Numbers that bound the work; 01,
+-- Refusal numbers 7, 11 and 15 to 17 and the paragraphs under the table).
 use Prim.Native.Nat.{ℕ, zero, suc, _*_}
 use mathlib.Core.Path.{_≡_}
 use mathlib.Core.Bool.{Bool, _&&_, _||_, cond}

@@ -32,7 +32,7 @@ qrsFiducial s k = numberAt 4 s (28 + 14 * k)
 abbrev pub zoneEnd : List ℕ → ℕ → ℕ
 zoneEnd s k = numberAt 4 s (32 + 14 * k)
 
--- N, the number of samples that a beat of so many ms has at an interval of so many microseconds, rounded down
+-- N, the number of samples that a beat of `ms` milliseconds has at an interval of `interval` microseconds, rounded down
 unfoldable pub samplesInBeat : ℕ → ℕ → ℕ
 samplesInBeat ms interval = 1000 * ms / interval
 
@@ -56,7 +56,7 @@ zoneRight samples s k =
     (eqb (zoneBegin s k) 0 && eqb (zoneEnd s k) 0)
 
 -- the beat has 1 to 65,536 samples, F is one of them, and there are at most 1,024 QRS, all of them in the section, each by its rule.
--- Whatever stands behind them is not judged
+-- Whatever follows them is not judged
 unfoldable pub section4Right : ℕ → List ℕ → Bool
 section4Right samples s =
     leb 1 samples

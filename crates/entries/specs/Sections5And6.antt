@@ -21,7 +21,7 @@ orderOf s = byteAt s 20
 abbrev pub bimodalOf : List ℕ → ℕ
 bimodalOf s = byteAt s 21
 
--- how many bytes each lead's stream has (2 for each lead); behind these counts stand the streams, in the order of the leads
+-- how many bytes each lead's stream has (2 for each lead); the streams follow these counts, in the order of the leads
 abbrev pub byteCountOf : List ℕ → ℕ → ℕ
 byteCountOf s k = numberAt 2 s (22 + 2 * k)
 

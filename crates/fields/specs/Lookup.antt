@@ -17,8 +17,8 @@ abbrev pub placeFound : ℕ → Step → Place
 placeFound start (Found f) = At (start + f .start) (sizeOf f)
 placeFound start End = Refused 10
 
--- where an occurrence of a tag, counted from 1, stands in the record; a record that does not open is refused as opening is, and
--- else 10 says that there is no such field
+-- where an occurrence of a tag, counted from 1, is in the record; a record that does not open is refused as opening is, and else 10
+-- says that there is no such field
 unfoldable pub fieldPlace : List ℕ → ℕ → ℕ → Place
 fieldPlace r tag occurrence =
     cond (opens r)

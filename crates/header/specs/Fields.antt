@@ -10,7 +10,7 @@ use Rattle.header.specs.declared.Field.{Field}
 use Rattle.header.specs.declared.Step.{Step}
 use Rattle.header.specs.declared.Step.the-variants.{Found, End}
 
--- a whole field stands at a place: a tag other than 255, a length, and that many bytes
+-- there is a whole field at a place: a tag other than 255, a length, and that many bytes
 unfoldable pub isField : List ℕ → ℕ → Bool
 isField s at =
     leb (at + 3) (length s)
@@ -21,7 +21,7 @@ isField s at =
 unfoldable pub fieldAt : List ℕ → ℕ → Field
 fieldAt s at = record { tag = byteAt s at; start = at + 3; end = at + 3 + numberAt 2 s (at + 1) }
 
--- a step of the walk shows the field, or the end where no whole field stands; the end mark is no field, nor is any other 255
+-- a step of the walk shows the field, or the end where there is no whole field; the end mark is no field, nor is any other 255
 unfoldable pub stepAt : List ℕ → ℕ → Step
 stepAt s at = cond (isField s at) (Found (fieldAt s at)) End
 
@@ -30,7 +30,7 @@ abbrev pub onward : (ℕ → List Field) → Step → List Field
 onward more (Found f) = f ∷ more (f .end)
 onward more End = []
 
--- those of at most so many steps
+-- those of at most this many steps
 unfoldable pub walk : ℕ → List ℕ → ℕ → List Field
 walk zero s at = []
 walk (suc steps) s at = onward (walk steps s) (stepAt s at)
@@ -39,7 +39,7 @@ walk (suc steps) s at = onward (walk steps s) (stepAt s at)
 unfoldable pub fieldsFrom : List ℕ → ℕ → List Field
 fieldsFrom s at = walk (length s) s at
 
--- the place after the last of the fields that stand from a place on
+-- the place after the last of the fields from a place on
 unfoldable pub fieldsEnd : ℕ → List Field → ℕ
 fieldsEnd at [] = at
 fieldsEnd at (f ∷ fs) = fieldsEnd (f .end) fs

@@ -10,7 +10,7 @@ use Rattle.header.specs.declared.Step.{Step}
 use Rattle.header.specs.declared.Step.the-variants.{Found, End}
 use Rattle.header.specs.Fields.{fieldsFrom, fieldsEnd, withTag, sizeOf}
 
--- the end mark FF 00 00 stands at a place, with at most `spare` bytes after it
+-- the end mark FF 00 00 is at a place, with at most `spare` bytes after it
 unfoldable pub endsAt : ℕ → List ℕ → ℕ → Bool
 endsAt spare s at =
     eqb (byteAt s at) 255
@@ -35,7 +35,7 @@ isIdentifier s f =
     && (eqb (byteAt s (f .end - 1)) 0
     && allIn (f .start) (f .end - 1) (λ i. not (eqb (byteAt s i) 0))))
 
--- a field of so many bytes
+-- a field of n bytes
 unfoldable pub hasSize : ℕ → Field → Bool
 hasSize n f = eqb (sizeOf f) n
 
@@ -43,14 +43,14 @@ hasSize n f = eqb (sizeOf f) n
 abbrev pub anyField : Field → Bool
 anyField f = true
 
--- four tags must stand, each in one field only: 2, the identifier; 14, of any size; 25, of four bytes; 26, of three
+-- four tags are required, each in one field only: 2, the identifier; 14, of any size; 25, of four bytes; 26, of three
 unfoldable pub tagsRight : List ℕ → List Field → Bool
 tagsRight s fs =
     foundKeeps (isIdentifier s) (sole (withTag 2 fs))
     && (foundKeeps anyField (sole (withTag 14 fs))
     && (foundKeeps (hasSize 4) (sole (withTag 25 fs)) && foundKeeps (hasSize 3) (sole (withTag 26 fs))))
 
--- 6: the fields stand up to the end mark, with at most `spare` bytes behind it (1 in a record, 0 for the writer), and the
--- tags that must stand keep their rules
+-- 6: the fields run up to the end mark, with at most `spare` bytes behind it (1 in a record, 0 for the writer), and the required tags
+-- keep their rules
 unfoldable pub section1Right : ℕ → List ℕ → ℕ → Bool
 section1Right spare s at = endsAt spare s (fieldsEnd at (fieldsFrom s at)) && tagsRight s (fieldsFrom s at)

@@ -1,6 +1,6 @@
 -- The bytes of a record as the writer writes it (01, The record; 01, Leads and samples; 01, Refusal numbers, the paragraphs under the
 -- table): Section 0 with twelve pointers, then Sections 1, 2 if it is given, 3 and 6, each behind the one before it; the version byte
--- stands in both places of every header, and a byte that is reserved or spare is 0, but for Section 0's letters.
+-- is in both places of every header, and a byte that is reserved or spare is 0, but for Section 0's letters.
 use Prim.Native.Nat.{ℕ, zero, suc, _+_, _-_, _%_}
 use mathlib.Core.Bool.{cond}
 use mathlib.Core.List.{List, [], _∷_, _++_}
@@ -15,7 +15,7 @@ use Rattle.wire.specs.Check.{crcOf}
 unfoldable pub evened : List ℕ → List ℕ
 evened contents = contents ++ replicate (length contents % 2) 0
 
--- the length of a section with so many bytes of data: the header's 16, the data, and the spare byte where there is one
+-- the length of a section with `count` bytes of data: the header's 16, the data, and the spare byte where there is one
 abbrev pub sectionLength : ℕ → ℕ
 sectionLength count = 16 + count + count % 2
 
@@ -74,7 +74,7 @@ abbrev pub absent : ℕ → List ℕ
 absent id = pointerBytes id 0 0
 
 -- the twelve pointers, by the lengths of Sections 1, 2 (0 where it is absent), 3 and 6: Section 0 has 136 bytes and index 7, and each
--- present section stands behind the one before
+-- present section follows the one before
 unfoldable pub pointersData : ℕ → ℕ → ℕ → ℕ → List ℕ
 pointersData size1 size2 size3 size6 =
     pointerBytes 0 136 7

@@ -1,5 +1,5 @@
--- What reading a lead answers, and what stands in the lent room afterwards (01, Refusal numbers, the paragraphs under the table); and
--- what asking for a lead's entry answers. That call is ours: 01 has no such call, and the rows that refuse it are 01's, 1 to 10.
+-- The answer of reading a lead, and the contents of the lent room afterwards (01, Refusal numbers, the paragraphs under the table);
+-- and the answer of asking for a lead's entry. That call is ours: 01 has no such call, and the rows that refuse it are 01's, 1 to 10.
 use Prim.Native.Nat.{ℕ, zero, suc, _-_}
 use mathlib.Core.Bool.{_&&_, cond}
 use mathlib.Core.List.{List, _++_}

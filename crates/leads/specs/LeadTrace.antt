@@ -50,7 +50,7 @@ unfoldable pub readRefusal : List ℕ → ℕ → ℕ → ℕ → ℕ
 readRefusal r place room work =
     cond (eqb (leadRefusal r place) 0) (unless (roomRight r (place - 1) room work) 11 0) (leadRefusal r place)
 
--- what reading the lead at a place comes to, with so much room and work space lent
+-- the result of reading the lead at a place, where this much room and work space are lent
 unfoldable pub readTrace : List ℕ → ℕ → ℕ → ℕ → Trace
 readTrace r place room work =
     cond (eqb (readRefusal r place room work) 0) (traceAt r (place - 1)) (fault (readRefusal r place room work))

@@ -5,12 +5,12 @@ use mathlib.Core.List.{List, [], _∷_, _++_}
 use lib.ListN.{length, take, drop, replicate}
 use Rattle.bits.specs.Bits.{numberOf}
 
--- so many bytes, of eight bits each; where the bits run out, 0
+-- this many bytes, of eight bits each; where the bits run out, 0
 unfoldable pub packedIn : ℕ → List ℕ → List ℕ
 packedIn zero bs = []
 packedIn (suc n) bs = numberOf (take 8 (bs ++ replicate 8 0)) ∷ packedIn n (drop 8 bs)
 
--- how many bytes so many bits need
+-- how many bytes are needed for this many bits
 abbrev pub bytesFor : ℕ → ℕ
 bytesFor bits = (bits + 7) / 8
 

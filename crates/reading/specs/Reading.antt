@@ -1,6 +1,6 @@
 -- The reading rule (01, Code tables). The bits begin with a code of the table that is current: either it gives a value, or it switches
 -- to another table, and the bits behind it are read by that one in the same way. `tables` are those that Section 2's data mean; the
--- empty list stands for a record without Section 2.
+-- empty list means a record without Section 2.
 use Prim.Native.Nat.{ℕ, zero, suc, _+_, _*_}
 use mathlib.Core.Bool.{cond}
 use mathlib.Core.List.{List, [], _∷_}
@@ -13,8 +13,8 @@ use Rattle.tables.specs.declared.Structure.{Structure}
 use Rattle.tables.specs.Structures.{prefixOf, remainderOf}
 use Rattle.tables.specs.Section2.{tableOf}
 
--- what reading a value comes to: the value, the table that is current after it, and the bits that are left; or no value, since the bits
--- begin with no code, or end within one
+-- the result of reading a value: the value, the table that is current after it, and the bits that are left; or no value, since the
+-- bits begin with no code, or end within one
 pub data Next : Type 0 where
   gave : ℤ → ℕ → List ℕ → Next
   stuck : Next
@@ -38,7 +38,7 @@ afterMatch carryOn none table bs = stuck
 afterMatch carryOn (some c) table bs =
     cond (eqb (c .mode) 0) (carryOn (c .base) (drop (c .prefix) bs)) (valueOf (remainderOf c) (c .base) table (drop (c .prefix) bs))
 
--- a value read by at most so many codes
+-- a value read by at most this many codes
 unfoldable pub readWithin : ℕ → List (List Structure) → ℕ → List ℕ → Next
 readWithin zero tables table bs = stuck
 readWithin (suc codes) tables table bs =

@@ -66,8 +66,8 @@ headerRepeats r k = eqb (numberAt 2 r (startOf r k + 2)) (idOf r k) && eqb (numb
 unfoldable pub sectionsApart : List ℕ → ℕ → ℕ → Bool
 sectionsApart r k j = not (present r j) || (leb (endOf r j) (startOf r k) || leb (endOf r k) (startOf r j))
 
--- a section is absent; or it is placed by the rules, its header repeats its pointer, and it overlaps none whose pointer stands
--- before its own, so that no two overlap
+-- a section is absent; or it is placed by the rules, its header repeats its pointer, and it overlaps none whose pointer comes before
+-- its own, so that no two overlap
 unfoldable pub placedRight : List ℕ → ℕ → Bool
 placedRight r k = not (present r k) || (placeRight r k && (headerRepeats r k && allIn 1 k (sectionsApart r k)))
 

@@ -13,7 +13,7 @@ storedOf zero place x last other = x
 storedOf (suc zero) place x last other = cond (ltb place 1) x (x -ℤ last)
 storedOf (suc (suc k)) place x last other = cond (ltb place 2) x (x -ℤ (last +ℤ last) +ℤ other)
 
--- the sample that a stored value stands for, behind the same two
+-- the sample that a stored value decodes to, behind the same two
 unfoldable pub sampleOf : ℕ → ℕ → ℤ → ℤ → ℤ → ℤ
 sampleOf zero place v last other = v
 sampleOf (suc zero) place v last other = cond (ltb place 1) v (v +ℤ last)

@@ -1,8 +1,8 @@
--- The promise on a stream (the customer's third demand, whose words stand in crates/answers/specs/Demands.antt; row 15 and the tie: 01,
+-- The promise on a stream (the customer's third demand, quoted in crates/answers/specs/Demands.antt; row 15 and the tie: 01,
 -- Refusal numbers). Among all streams that the reading rule, starting in table 1, takes to these values with nothing left, the shortest
 -- has the fewest bits, and where others have as few, it is the one that has a 0 where another first differs from it. The values are the
 -- differences of a lead's samples: a stream reads to the samples exactly if it reads to these. `tables` are those that Section 2's data
--- mean; the empty list stands for no Section 2.
+-- mean; the empty list means no Section 2.
 use Prim.Native.Nat.{ℕ, _≤_}
 use mathlib.Core.Path.{_≡_}
 use mathlib.Core.Bool.{Bool, true}

@@ -1,6 +1,6 @@
 -- The default table (01, Code tables), by the runs of ones that its prefixes begin with. The value 0 has no run: its prefix is one bit,
 -- 0. A value of size 1 to 8 has a run as long as its size, then 0, then a bit for the sign, 1 if it is negative. A run of nine, ended
--- by 0, stands before 8 bits of remainder, and a run of ten, with nothing to end it, before 16.
+-- by 0, comes before 8 bits of remainder, and a run of ten, with nothing to end it, before 16.
 use Prim.Native.Nat.{ℕ, _+_, _-_, _*_, _<_}
 use mathlib.Core.Path.{_≡_}
 use mathlib.Core.Bool.{true}
@@ -14,7 +14,7 @@ unfoldable pub codeOf : List ℕ → ℕ
 codeOf [] = 0
 codeOf (b ∷ bs) = b + codeOf bs * 2
 
--- the structure of a value with this prefix, so many bits of remainder, and this base value
+-- the structure of a value with this prefix, this many bits of remainder, and this base value
 unfoldable pub valued : List ℕ → ℕ → ℕ → Structure
 valued bits remainder base = record {
   prefix = length bits;

@@ -49,8 +49,8 @@ unfoldable pub tableRight : ℕ → List Structure → Bool
 tableRight tables cs =
     leb 1 (length cs) && (leb (length cs) mostStructures && (every (structureRight tables) cs && prefixFree cs))
 
--- 7: the default table alone, or 1 to 8 tables, each by its rule; and behind them at most so many spare bytes. (A section's length is
--- even, so that in a record no spare byte can follow the default table's two bytes.)
+-- 7: the default table alone, or 1 to 8 tables, each by its rule; and behind them at most `spare` bytes. (A section's length is even,
+-- so that in a record no spare byte can follow the default table's two bytes.)
 unfoldable pub section2Right : ℕ → List ℕ → ℕ → Bool
 section2Right spare s at =
     cond (isDefault s at) (endsBy spare s (at + 2))

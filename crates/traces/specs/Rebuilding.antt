@@ -1,6 +1,7 @@
--- What a stream of bits is rebuilt to (01, Code tables; 01, Leads and samples; 01, Refusal numbers 12 to 14): value after value is
--- read, a sample is made of each, and the first fault ends it. 12 is given by `afterNext`, where there is no value to read; 13 by
--- `afterSample` (crates/samples/specs/Trace.antt), where the sample has more than 16 bits; 14 by `rebuildFrom`, behind the last sample.
+-- The trace that a stream of bits is rebuilt to (01, Code tables; 01, Leads and samples; 01, Refusal numbers 12 to 14): value after
+-- value is read, a sample is made of each, and the first fault ends it. 12 is given by `afterNext`, where there is no value to read;
+-- 13 by `afterSample` (crates/samples/specs/Trace.antt), where the sample has more than 16 bits; 14 by `rebuildFrom`, behind the last
+-- sample.
 use Prim.Native.Nat.{ℕ, zero, suc, _+_}
 use mathlib.Core.Bool.{cond}
 use mathlib.Core.List.{List, []}

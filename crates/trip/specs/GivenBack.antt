@@ -1,4 +1,4 @@
--- What the reader gives back of a record that the writer wrote (the second demand; 01, What the contracts have to settle): the fields of
+-- From a record that the writer wrote, the reader gives back (the second demand; 01, What the contracts have to settle): the fields of
 -- Section 1 in their order and byte for byte, and every lead sample for sample, with all that the job says of it, bit 0 of the flags
 -- cleared; and no other lead.
 use Prim.Native.Nat.{ℕ, _+_, _-_, _%_, _≤_, _<_}
@@ -21,7 +21,7 @@ use Rattle.leads.specs.LeadTrace.{readTrace}
 use Rattle.leads.specs.LeadAnswers.{leadAnswer, entryAnswer}
 use Rattle.compose.specs.Writing.{Job, cut}
 
--- a field of Section 1's data, where the section's header stands before them
+-- a field of Section 1's data, where the section's header comes before them
 abbrev pub behindHeader : Field → Field
 behindHeader f = record { tag = f .tag; start = dataAt + f .start; end = dataAt + f .end }
 
@@ -41,7 +41,7 @@ pub record GivenBack (j : Job) (r : List ℕ) : Type 0 where
   -- the record opens
   pub opened : openRefusal r ≡ 0
   -- Section 1's data are those given; a walk meets the same fields in the same order; and a field is shown, or refused with 10, by what
-  -- stands in the data given
+  -- is in the data given
   pub section1 : part (sectionOf r 1) dataAt (dataAt + length (j .section1)) ≡ j .section1
   pub walked : fieldsFrom (sectionOf r 1) dataAt ≡ map behindHeader (fieldsFrom (j .section1) 0)
   pub fields : (tag n : ℕ) (step : Step) → occurring n (withTag tag (fieldsFrom (j .section1) 0)) ≡ step

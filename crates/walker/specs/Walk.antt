@@ -1,4 +1,4 @@
--- What a step of the walk shows of Section 1 (01, Header fields and the patient identifier), and where the next step stands.
+-- The part of Section 1 that a step of the walk shows (01, Header fields and the patient identifier), and the next step's place.
 use Prim.Native.Nat.{ℕ, zero, suc, _≤_}
 use mathlib.Core.Path.{_≡_}
 use mathlib.Core.Bool.{Bool, true, false, cond}
@@ -31,7 +31,7 @@ abbrev pub placeAfter : ℕ → Step → ℕ
 placeAfter at (Found f) = f .end
 placeAfter at End = at
 
--- what a walker over s at a place shows in at most so many steps, each a tag and its bytes, up to the end
+-- what a walker over s at a place shows in at most this many steps, each a tag and its bytes, up to the end
 unfoldable pub shownBy : ℕ → List ℕ → ℕ → List (ℕ × List ℕ)
 shownBy zero s at = []
 shownBy (suc steps) s at =

@@ -3,8 +3,8 @@ use Prim.Native.Nat.{ℕ, zero, suc, _+_, _*_, _-_, _/_, _%_}
 use mathlib.Core.List.{List, [], _∷_}
 use lib.ListN.{getD, take, drop}
 
--- the byte at a place; 0 where no byte stands. Where a rule reads a number, that rule or one before it asks that
--- all of the number's bytes stand there
+-- the byte at a place; 0 where there is no byte. Where a rule reads a number, that rule or one before it asks that all of the number's
+-- bytes are there
 abbrev pub byteAt : List ℕ → ℕ → ℕ
 byteAt s i = getD s i 0
 
@@ -18,6 +18,6 @@ unfoldable pub bytesOf : ℕ → ℕ → List ℕ
 bytesOf zero n = []
 bytesOf (suc w) n = n % 256 ∷ bytesOf w (n / 256)
 
--- what stands from a place up to another, the second left out
+-- the bytes from a place up to another, the second left out
 abbrev pub part : List ℕ → ℕ → ℕ → List ℕ
 part s start end = take (end - start) (drop start s)

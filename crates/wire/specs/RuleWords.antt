@@ -19,7 +19,7 @@ unfoldable pub every : {A : Type 0} → (A → Bool) → List A → Bool
 every rule [] = true
 every rule (x ∷ xs) = rule x && every rule xs
 
--- bytes end at a place, with at most so many spare bytes behind it: 1 in a record, 0 in what the writer is given
+-- bytes end at a place, with at most `spare` bytes behind it: 1 in a record, 0 in what the writer is given
 unfoldable pub endsBy : ℕ → List ℕ → ℕ → Bool
 endsBy spare s end = leb end (length s) && leb (length s) (end + spare)
 
