@@ -13,8 +13,8 @@ use Rattle.samples.specs.Trace.{Trace, rebuilt, afterSample}
 unfoldable pub inZone : List ℕ → ℕ → ℕ → Bool
 inZone s k n = eqb (qrsType s k) 0 && (leb (zoneBegin s k) n && leb n (zoneEnd s k))
 
--- the number, from 1, of the beat's sample that sample n gets, by the first zone that it lies in among this many zones from k on: n -
--- C + F. In a section that keeps its rule this is 1 or more for every n of a zone, and is never cut off at 0; so 0 says that n lies in
+-- the number, from 1, of the beat's sample that sample n gets: n - C + F, by the first zone that it lies in among this many zones from
+-- k on. In a section that keeps its rule this is 1 or more for every n of a zone, and is never cut off at 0; so 0 says that n lies in
 -- no zone
 unfoldable pub beatPlaceFrom : List ℕ → ℕ → ℕ → ℕ → ℕ
 beatPlaceFrom s zero k n = 0

@@ -36,7 +36,7 @@ fn zone_for(s: &[u8], zones: usize, k: usize, n: usize) -> usize
     j
 }
 
-// What sample n gets by zone k, the first that reaches it, 32,768 added: a sample of the beat, or 0.
+// The value that sample n gets from zone k, the first that reaches it, 32,768 added: a sample of the beat, or 0.
 fn beat_by(s: &[u8], beat: &[i16], zones: usize, k: usize, n: usize) -> usize
     requires { ⌜ (section4Right (length (now beat)) (now s) ≡ true) × (zones ≡ qrsCount (now s)) × (k ≤ zones) × (n ≤ 8589934592)
         × Reaches (now s) zones k n ⌝ }

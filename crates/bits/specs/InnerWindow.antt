@@ -1,4 +1,4 @@
--- What a window of 64 bits on a stream says, and a code turned round for it. No public contract rests on this.
+-- The meaning of a window of 64 bits on a stream, and a code turned round for it. No public contract rests on this.
 use Prim.Native.Nat.{ℕ, _-_, _/_, _^_, _≤_}
 use mathlib.Core.Path.{_≡_}
 use mathlib.Core.List.{List}

@@ -1,4 +1,4 @@
-// Bits of bytes, the most significant first, through a window: the next bits of a stream, at least 57 where there are so many, as
+// Bits of bytes, the most significant first, through a window: the next bits of a stream, at least 57 where there are that many, as
 // the top of a 64-bit number (01, Code tables).
 ghost use mathlib.Core.Path.{_≡_};
 ghost use mathlib.Core.List.{_++_};

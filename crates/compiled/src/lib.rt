@@ -1,6 +1,6 @@
 // The code tables taken apart once for a lead, into the one form that reading and searching run on: 385 numbers a table (how many
-// structures, then six numbers for each), so that matching a code is a shift and a comparison. Behind the eight tables stand 256 numbers
-// a table: for each first eight bits of a stream, the structure to try first.
+// structures, then six numbers for each), so that matching a code is a shift and a comparison. The eight tables are followed by 256
+// numbers a table: for each first eight bits of a stream, the structure to try first.
 ghost use mathlib.Core.Path.{_≡_};
 ghost use mathlib.Core.Bool.{true};
 ghost use mathlib.Core.List.{[], _++_};
@@ -16,7 +16,7 @@ use tables::Structure;
 // How many numbers a table takes: its number of structures, then six for each of up to 64.
 pub const TABLE: usize = 385;
 
-// Behind eight tables come the guesses, so many for each table: one for each first eight bits.
+// The guesses begin behind the eight tables, 256 for each table: one for each first eight bits.
 const GUESSES: usize = 3080;
 
 const GUESSES_OF_A_TABLE: usize = 256;
@@ -214,7 +214,7 @@ fn put_guess(tab: &mut [u32], t: usize, k: usize)
     }
 }
 
-// What to try first, by the structures of table t.
+// Puts the guesses of table t, by its structures.
 fn put_guesses(tab: &mut [u32], t: usize)
     requires { ⌜ (length (now tab) ≡ roomNumbers) × (t < 8) ⌝ }
     ensures { λ _. ⌜ SameTables (now (tab .entry)) (now (tab .exit)) ⌝ }
@@ -243,7 +243,7 @@ pub fn compile(s: &[u8], at: usize, spare: usize, tab: &mut [u32])
     }
 }
 
-// What stands for the first eight bits of a window.
+// The number that the row has for the first eight bits of a window.
 fn pointed(row: &[u32], w: u64) -> usize
     requires { ⌜ length (now row) ≡ 256 ⌝ }
     ensures { λ r. ⌜ r ≡ getD (now (row .entry)) (w / 2 ^ 56) 0 ⌝ }
@@ -252,8 +252,8 @@ fn pointed(row: &[u32], w: u64) -> usize
     row[first] as usize
 }
 
-// The structure of table t to try first for the bits of a window: its place, and 64 times its prefix's length. What stands there is
-// what is answered; that it is right is nowhere said, and whoever takes it tests it.
+// The structure of table t to try first for the bits of a window: its place, and 64 times its prefix's length. The answer is the
+// number found there; nothing says that it is right, and whoever takes it tests it.
 pub fn guess(tab: &[u32], t: usize, w: u64) -> usize
     requires { ⌜ (length (now tab) ≡ roomNumbers) × (t < 8) ⌝ }
     ensures { λ r. ⌜ r ≡ getD (now (tab .entry)) (guessesAt + t * 256 + w / 2 ^ 56) 0 ⌝ }

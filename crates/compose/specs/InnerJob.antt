@@ -1,4 +1,4 @@
--- What stands once nothing is refused before the search. No public contract rests on this.
+-- The facts that hold once nothing is refused before the search. No public contract rests on this.
 use Prim.Native.Nat.{ℕ, zero, suc, _+_, _*_, _<_, _≤_}
 use mathlib.Core.Path.{_≡_}
 use mathlib.Core.Bool.{true, cond}

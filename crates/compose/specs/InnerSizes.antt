@@ -34,7 +34,7 @@ pub record SizedAs (s2 : List ℕ) (order : ℕ) (xss : List (List ℤ)) (number
   pub says : number ≡ numberFor founds
   pub each : sizes ≡ map sizeFound founds
 
--- the samples have a shortest stream, of so many bytes
+-- the samples have a shortest stream, of `size` bytes
 abbrev pub StreamOf : List ℕ → ℕ → List ℤ → ℕ → Type 0
 StreamOf s2 order xs size =
     (bs : List ℕ) × Shortest (tablesGiven s2) (differences order xs) bs × (bytesFor (length bs) ≤ 65535) × (bytesFor (length bs) ≡ size)

@@ -19,14 +19,14 @@ ghost use Rattle.compose.specs.Writing.{jobOf, total, longest, leadAsked
 ghost use Rattle.compose.specs.InnerSizes.{numberWith, SizedAs, StreamOf, StreamsFor};
 ghost use Rattle.compose.specs.InnerJob.{Sound, Listed, frontSize, count6, sizeWith, refusalFor, answerOf, Streamed};
 
-// What writing a record answers: 0 or a refusal number, and on a refusal nothing else; the record's length.
+// The answer of writing a record: 0 or a refusal number, and on a refusal nothing else; the record's length.
 #[repr(C)]
 pub struct Written {
     pub refusal: u8,
     pub bytes: u32,
 }
 
-// The numbers of a job that stand for all of its leads.
+// The numbers of a job that apply to all of its leads.
 pub struct Head {
     pub version: u8,
     pub flags: u8,
@@ -160,7 +160,7 @@ fn job_refusal(
     0
 }
 
-// 15 or 16 where a stream of so many bits asks for it; else what is said of the leads behind.
+// 15 or 16 where a stream of `bits` bits asks for it; else `later`, the number for the leads behind.
 fn number_with(bits: usize, later: u8) -> u8
     ensures { λ r. ⌜ ((found : Option (List ℕ)) → bits ≡ bitsFound found → r ≡ numberWith found later) ⌝ }
 {
@@ -379,7 +379,7 @@ fn judged(number: u8, count1: usize, count2: usize, sizes: &[u32], room: usize) 
     }
 }
 
-// The streams are looked for and, if nothing is refused, Section 6 is put where it will stand in the record.
+// Looks for the streams and, if nothing is refused, puts Section 6 where it will be in the record.
 fn write_found(
     count1: usize,
     section2: &[u8],
@@ -476,7 +476,7 @@ fn write_sections(
     );
 }
 
-// What stands before Section 6 is put, and then the record's size and its check.
+// Puts all that comes before Section 6, and then the record's size and its check.
 fn write_front(
     out: &mut [u8],
     head: Head,
@@ -513,7 +513,7 @@ fn write_front(
 }
 
 // A job becomes a record at the front of the output. It is Section 1's data with their end mark, Section 2's with no spare byte (empty:
-// none), and of each lead its first sample's number, its count of samples and its ID; the samples of all leads stand one after another.
+// none), and of each lead its first sample's number, its count of samples and its ID; the samples of all leads follow one another.
 pub fn write_record(
     section1: &[u8],
     section2: &[u8],

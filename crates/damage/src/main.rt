@@ -86,7 +86,7 @@ fn show_rows(rec: &[u8]) {
     put(b"\n");
 }
 
-// What is answered beside the samples.
+// Prints the answer that goes with a lead's samples.
 fn put_lead(lead: Lead) {
     put(b"ID ");
     put_number(lead.id as usize);

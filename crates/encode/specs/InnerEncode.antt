@@ -1,4 +1,4 @@
--- What writing a lead's stream asks and leaves. No public contract rests on this.
+-- The conditions for writing a lead's stream, and the state that it leaves. No public contract rests on this.
 use Prim.Native.Nat.{ℕ, zero, suc, min, _+_}
 use mathlib.Core.Path.{_≡_}
 use mathlib.Core.List.{List, [], _++_}
@@ -72,7 +72,7 @@ abbrev pub clearedIf : ℕ → List ℕ → List ℕ
 clearedIf zero work = work
 clearedIf (suc n) work = replicate (length work) 0
 
--- how many numbers hold the tables of Section 2's data, of which there are so many bytes
+-- how many numbers hold the tables of Section 2's data, by how many bytes the data have
 abbrev pub heldFor : ℕ → ℕ
 heldFor zero = 0
 heldFor (suc n) = roomNumbers

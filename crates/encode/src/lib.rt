@@ -19,7 +19,7 @@ ghost use Rattle.encode.specs.InnerEncode.{codeOf, PartWrittenBy, Compil
 use compiled::Form;
 use packing::Sink;
 
-// What encoding a lead answers: 0 or a refusal number, and on a refusal nothing else; the stream's bytes and bits.
+// The answer of encoding a lead: 0 or a refusal number, and on a refusal nothing else; the stream's bytes and bits.
 #[repr(C)]
 pub struct Coded {
     pub refusal: u8,
@@ -46,7 +46,7 @@ fn put_code(sink: Sink, out: &mut [u8], f: Form, xs: &[i16], order: usize, i: us
     p.put(out, v % bits::power(f.remainder), f.remainder)
 }
 
-// Where the walk of a stream has come to: what is written, the next sample, the table, and how many bits are left.
+// How far the walk of a stream has gone: what is written, the next sample, the table, and how many bits are left.
 struct Gone {
     sink: Sink,
     i: usize,
@@ -54,7 +54,7 @@ struct Gone {
     left: usize,
 }
 
-// The codes of the structures that stand in the work space for the next samples, as far as they are of one table: to the end, or to a
+// The codes of the structures that the work space holds for the next samples, as far as they are of one table: to the end, or to a
 // switch, which leads to another. In one table a sample's place does not wait for the form of the one before it.
 fn run(
     tab: &[u32],
@@ -171,7 +171,7 @@ pub fn stream_bits(tab: &[u32], n: usize, xs: &[i16], order: usize, work: &mut [
     search::plan(tab, n, xs, order, work)
 }
 
-// The shortest stream, at the front of the output: of so many bits as were found, its way in the work space.
+// The shortest stream, at the front of the output: it has `bits` bits, as found, and its way is in the work space.
 pub fn put_stream(
     tab: &[u32],
     n: usize,
@@ -195,7 +195,7 @@ pub fn put_stream(
     walk(tab, n, xs, order, work, bits, out);
 }
 
-// 15, 16 or 11 for the output, or 0, where so many bits were found.
+// 15, 16 or 11 for the output, or 0, where `bits` bits were found.
 fn found_refusal(bits: usize, room: usize) -> u8
     ensures { λ r. ⌜ ((found : Option (List ℕ)) → bits ≡ bitsFound found → r ≡ foundRefusal room found) ⌝ }
 {
@@ -222,7 +222,7 @@ fn refused(refusal: u8) -> Coded
     }
 }
 
-// What is answered beside a stream of so many bits.
+// The answer that goes with a stream of `bits` bits.
 fn answer_for(bits: usize) -> Coded
     requires { ⌜ bits < 524281 ⌝ }
     ensures { λ r. ⌜ ((bs : List ℕ) → length bs ≡ bits → r ≡ codedAs 0 (some bs)) ⌝ }

@@ -258,7 +258,7 @@ pub fn zone_end(s: &[u8], k: usize) -> usize
     wire::number32(s, 32 + 14 * k)
 }
 
-// How many samples a beat of so many milliseconds has.
+// How many samples a beat of `ms` milliseconds has.
 pub fn samples_in_beat(ms: usize, interval: usize) -> usize
     requires { ⌜ (ms < 65536) × (0 < interval) ⌝ }
     ensures { λ r. ⌜ (r ≡ samplesInBeat ms interval) × (r ≤ 65535000) ⌝ }
@@ -324,7 +324,7 @@ fn zones_right(s: &[u8], n: usize, samples: usize) -> bool
     true
 }
 
-// Section 4 keeps its rule, for a beat of so many samples.
+// Section 4 keeps its rule, for a beat of `samples` samples.
 pub fn section4_right(s: &[u8], samples: usize) -> bool
     ensures { λ r. ⌜ r ≡ section4Right samples (now (s .entry)) ⌝ }
 {

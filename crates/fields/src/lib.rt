@@ -12,7 +12,7 @@ pub enum Place {
     Refused(u8),
 }
 
-// Where a field stands in the record.
+// Where a field is in the record.
 pub fn field_place(rec: &[u8], tag: u8, occurrence: usize) -> Place
     ensures { λ r. ⌜ r ≡ fieldPlace (now (rec .entry)) tag occurrence ⌝ }
 {

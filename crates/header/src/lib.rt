@@ -15,7 +15,7 @@ pub struct Field {
     pub end: usize,
 }
 
-// What a step of the walk shows.
+// A step of the walk shows a field, or the end.
 pub enum Step {
     Found(Field),
     End,
@@ -103,7 +103,7 @@ fn walk_end(s: &[u8], at: usize) -> usize
     }
 }
 
-// The field with a tag, if it stands exactly once.
+// The field with a tag, if the tag occurs exactly once.
 fn sole_named(s: &[u8], at: usize, tag: u8) -> Step
     ensures { λ r. ⌜ r ≡ sole (withTag tag (fieldsFrom (now (s .entry)) at)) ⌝ }
 {
@@ -119,7 +119,7 @@ fn sole_named(s: &[u8], at: usize, tag: u8) -> Step
     }
 }
 
-// The end mark stands at a place, with at most `spare` bytes after it.
+// The end mark is at a place, with at most `spare` bytes after it.
 fn ends_at(s: &[u8], at: usize, spare: usize) -> bool
     ensures { λ r. ⌜ r ≡ endsAt spare (now (s .entry)) at ⌝ }
 {
@@ -178,7 +178,7 @@ fn is_identifier(s: &[u8], f: Field) -> bool
     no_nul(s, start, last)
 }
 
-// Tag 2 stands once, and is an identifier.
+// Tag 2 occurs once, and is an identifier.
 fn has_identifier(s: &[u8], at: usize) -> bool
     ensures { λ r. ⌜ r ≡ foundKeeps (isIdentifier (now (s .entry))) (sole (withTag 2 (fieldsFrom (now (s .entry)) at))) ⌝ }
 {
@@ -188,7 +188,7 @@ fn has_identifier(s: &[u8], at: usize) -> bool
     }
 }
 
-// A tag stands once.
+// A tag occurs once.
 fn has_field(s: &[u8], at: usize, tag: u8) -> bool
     ensures { λ r. ⌜ r ≡ foundKeeps anyField (sole (withTag tag (fieldsFrom (now (s .entry)) at))) ⌝ }
 {
@@ -198,7 +198,7 @@ fn has_field(s: &[u8], at: usize, tag: u8) -> bool
     }
 }
 
-// A tag stands once, with so many bytes.
+// A tag occurs once, with `size` bytes.
 fn has_sized(s: &[u8], at: usize, tag: u8, size: usize) -> bool
     ensures { λ r. ⌜ r ≡ foundKeeps (hasSize size) (sole (withTag tag (fieldsFrom (now (s .entry)) at))) ⌝ }
 {
@@ -208,7 +208,7 @@ fn has_sized(s: &[u8], at: usize, tag: u8, size: usize) -> bool
     }
 }
 
-// A field has so many bytes.
+// A field has `size` bytes.
 fn size_is(f: Field, size: usize) -> bool
     ensures { λ r. ⌜ r ≡ hasSize size f ⌝ }
 {

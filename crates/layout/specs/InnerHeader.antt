@@ -1,4 +1,4 @@
--- What stands behind a section's check. No public contract rests on this.
+-- The bytes behind a section's check. No public contract rests on this.
 use Prim.Native.Nat.{ℕ}
 use mathlib.Core.List.{List, _∷_, _++_}
 use Rattle.wire.specs.Numbers.{bytesOf}

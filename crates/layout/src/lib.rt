@@ -36,7 +36,7 @@ fn put_check(part: &mut [u8])
     wire::put16(part, 0, check as usize);
 }
 
-// Header and check around data that stand there already.
+// Header and check around data that are there already.
 fn seal_with(part: &mut [u8], id: usize, version: u8, reserved: &[u8])
     requires { ⌜ (16 ≤ length (now part)) × (length (now reserved) ≡ 6) ⌝ }
     ensures { λ _. ⌜ now (part .exit)
@@ -51,7 +51,7 @@ fn seal_with(part: &mut [u8], id: usize, version: u8, reserved: &[u8])
     put_check(part);
 }
 
-// Header and check of a section other than 0, around data that stand there already with their spare byte.
+// Header and check of a section other than 0, around data that are there already with their spare byte.
 pub fn seal(part: &mut [u8], id: usize, version: u8)
     requires { ⌜ 16 ≤ length (now part) ⌝ }
     ensures { λ _. ⌜ now (part .exit)
@@ -223,7 +223,7 @@ pub fn write_streams_head(part: &mut [u8], step: u16, interval: u16, order: usiz
     put_counts(part, bytes);
 }
 
-// The record's size and, before it, its check; the sections stand there already.
+// The record's size and, before it, its check; the sections are there already.
 pub fn seal_record(out: &mut [u8])
     requires { ⌜ 6 ≤ length (now out) ⌝ }
     ensures { λ _. ⌜ now (out .exit) ≡ checked (bytesOf 4 (length (now (out .entry))) ++ drop 6 (now (out .entry))) ⌝ }

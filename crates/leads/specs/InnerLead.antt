@@ -1,4 +1,4 @@
--- What the functions that read a lead ask and answer. No public contract rests on this.
+-- The conditions and the answers of the functions that read a lead. No public contract rests on this.
 use Prim.Native.Nat.{ℕ, _≤_, _<_}
 use mathlib.Core.Path.{_≡_}
 use mathlib.Core.Bool.{Bool, true, false}

@@ -14,7 +14,7 @@ ghost use Rattle.leads.specs.LeadTrace.{tablesOf, sampleCountAt, streamT
 ghost use Rattle.leads.specs.InnerLead.{Readable, clearedIf};
 ghost use Rattle.leads.specs.LeadAnswers.{leadOf, leadAnswer, outAfter, workAfter, entryOf, entryAnswer};
 
-// What reading a lead answers beside its samples: 0 or a refusal number, and on a refusal nothing else.
+// The answer of reading a lead, beside its samples: 0 or a refusal number, and on a refusal nothing else.
 #[repr(C)]
 pub struct Lead {
     pub refusal: u8,
@@ -26,7 +26,7 @@ pub struct Lead {
     pub count: u32,
 }
 
-// What Sections 3 and 6 say of a lead; on a refusal its number alone.
+// The facts that Sections 3 and 6 give of a lead; on a refusal its number alone.
 #[repr(C)]
 pub struct Entry {
     pub refusal: u8,
@@ -41,7 +41,7 @@ pub struct Entry {
     pub bytes: u32,
 }
 
-// A lead of at most so many samples is read in small room, since all of the room is cleared first.
+// A lead of at most this many samples is read in small room, since all of the room is cleared first.
 const SMALL_ROOM: usize = 8192;
 
 // Room of its own: for the numbers of the code tables, and for the samples of a lead.
@@ -249,7 +249,7 @@ fn refused(refusal: u8) -> Lead
     }
 }
 
-// What is answered beside lead k's samples.
+// The answer that goes with lead k's samples.
 fn lead_at(rec: &[u8], k: usize) -> Lead
     requires { ⌜ (k < 256) × (sampleCountAt (now rec) k ≤ 65536) ⌝ }
     ensures { λ r. ⌜ ((xs : List ℤ) → length xs ≡ sampleCountAt (now (rec .entry)) k → r ≡ leadOf (now (rec .entry)) k (rebuilt xs)) ⌝ }
@@ -267,7 +267,7 @@ fn lead_at(rec: &[u8], k: usize) -> Lead
     }
 }
 
-// What Sections 3 and 6 say of lead k.
+// The facts that Sections 3 and 6 give of lead k.
 fn entry_at(rec: &[u8], k: usize) -> Entry
     requires { ⌜ k < 256 ⌝ }
     ensures { λ r. ⌜ r ≡ entryOf (now (rec .entry)) k 0 ⌝ }

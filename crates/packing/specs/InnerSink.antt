@@ -1,4 +1,4 @@
--- What the writer of bits holds. No public contract rests on this.
+-- The bits that the writer of bits holds. No public contract rests on this.
 use Prim.Native.Nat.{ℕ, _^_, _≤_, _<_}
 use mathlib.Core.Path.{_≡_}
 use mathlib.Core.List.{List, _++_}

@@ -73,7 +73,7 @@ pub record Hop {A : Type 0} (G : Codes A) (v : A) (vs : List A) (t k : ℕ) : Ty
 
 -- ---- costs: how many bits, with a cap at which they stop; a number above the cap says that there is no stream
 
--- a code of so many bits, where what is left costs a
+-- the cost of a code of `bits` bits, where what is left costs a
 abbrev pub join : ℕ → ℕ → ℕ → ℕ
 join cap bits a = cond (leb a cap) (min cap (bits + a)) (suc cap)
 

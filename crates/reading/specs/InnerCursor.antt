@@ -1,4 +1,4 @@
--- What the bit cursor and its methods say, of the reading rule. No public contract rests on this.
+-- The meaning of the bit cursor and its methods, by the reading rule. No public contract rests on this.
 use Prim.Native.Nat.{ℕ, _+_, _≤_, _<_}
 use mathlib.Core.Path.{_≡_}
 use mathlib.Core.List.{List}
@@ -18,7 +18,7 @@ use Rattle.reading.specs.declared.Read.the-variants.{Value, Stuck}
 use Rattle.reading.specs.declared.Burst.{Burst}
 use Rattle.reading.specs.declared.Burst.the-variants.{Ended, More}
 
--- the bits bs, of which so many are left, are seen through a window
+-- the bits bs, of which `left` are left, are seen through a window
 pub record Seen (bs : List ℕ) (w left : ℕ) : Type 0 where
   pub window : Window bs w
   pub small : (i : ℕ) → getD bs i 0 < 2

@@ -21,13 +21,13 @@ pub struct Cursor {
     pub table: usize,
 }
 
-// What reading a value answers: the value, 131,072 added, and the moved cursor; or that the code matches nothing or runs out.
+// The answer of reading a value: the value, 131,072 added, and the moved cursor; or that the code matches nothing or runs out.
 pub enum Read {
     Value(usize, Cursor),
     Stuck,
 }
 
-// What a burst of codes comes to: an answer, or the place where reading goes on.
+// The result of a burst of codes: an answer, or the place where reading goes on.
 pub enum Burst {
     Ended(Read),
     More(Cursor),
@@ -39,7 +39,7 @@ pub enum Found {
     Nothing,
 }
 
-// The window begins with a form's prefix, where so many bits are left.
+// The window begins with a form's prefix, where `left` bits are left.
 fn begins_with(f: Form, w: u64, left: usize) -> bool
     requires { ⌜ (1 ≤ f .prefix) × (f .prefix ≤ 32) ⌝ }
     ensures { λ r. ⌜ ((c : Structure) (bs : List ℕ) → formOf c ≡ f → Seen bs w left → r ≡ begins (prefixOf c) bs) ⌝ }

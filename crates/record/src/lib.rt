@@ -7,7 +7,7 @@ ghost use Rattle.pointers.specs.Pointers.{countOf};
 ghost use Rattle.record.specs.RecordRules.{lengthRight, recordCheckRight, lettersRight, idRight, ownPointerRight, section0Right, placeRight, headerRepeats, sectionsApart, placedRight, allPlacedRight, holdsCheck, sectionCheckRight, checksRight, fieldsRight};
 ghost use Rattle.record.specs.Opening.{openRefusal, openCount, openNumbers};
 
-// What opening answers: the refusal, or 0 and the number of pointers.
+// The answer of opening: the refusal, or 0 and the number of pointers.
 pub struct Opened {
     pub refusal: u8,
     pub count: u32,
@@ -74,7 +74,7 @@ fn letters_right(rec: &[u8]) -> bool
     true
 }
 
-// The ID of pointer k is the one that stands there by the rules.
+// The ID of pointer k is the one that the rules put there.
 fn id_right(rec: &[u8], k: usize) -> bool
     requires { ⌜ k < 64 ⌝ }
     ensures { λ r. ⌜ r ≡ idRight (now (rec .entry)) k ⌝ }

@@ -1,4 +1,4 @@
--- A trace joined to the samples that stand before it, and the trace that an answer means. No public contract rests on this.
+-- A trace joined to the samples before it, and the trace that an answer means. No public contract rests on this.
 use Prim.Native.Nat.{ℕ, zero, suc}
 use mathlib.Core.List.{List, _++_}
 use lib.IntN.{ℤ}

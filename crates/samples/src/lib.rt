@@ -36,7 +36,7 @@ fn plain(order: usize, place: usize) -> bool
     place < 2
 }
 
-// The sample that a stored value stands for, 229,376 added.
+// The sample that a stored value decodes to, 229,376 added.
 pub fn sample_of(order: usize, place: usize, v: usize, last: usize, other: usize) -> usize
     requires { ⌜ (v < 262144) × (last < 65536) × (other < 65536) ⌝ }
     ensures { λ r. ⌜ (fromZero 229376 r ≡ sampleOf order place (fromZero valueZero v) (fromZero sampleZero last) (fromZero sampleZero other)) × (r < 458752) ⌝ }
@@ -64,7 +64,7 @@ fn stored_of(order: usize, place: usize, x: usize, last: usize, other: usize) ->
     x + other + bits::VALUE_ZERO - 2 * last
 }
 
-// The sample so many places before the i-th, raised; where there is none, any.
+// The sample `back` places before the i-th, raised; where there is none, any.
 fn earlier(xs: &[i16], i: usize, back: usize) -> usize
     requires { ⌜ i < length (now xs) ⌝ }
     ensures { λ r. ⌜ (r < 65536) × (back ≤ i → fromZero sampleZero r ≡ getD (now (xs .entry)) (i - back) (pos 0)) ⌝ }

@@ -185,8 +185,8 @@ pub extern "C" fn scp_encode_lead(
     encode::encode_lead(section2, samples, order as usize, work, out)
 }
 
-// Writing a record: Section 1's data with their end mark, Section 2's (empty: none), the numbers that stand for all leads, and the leads,
-// whose samples stand one after another.
+// Writing a record: Section 1's data with their end mark, Section 2's (empty: none), the numbers that apply to all leads, and the
+// leads, whose samples follow one another.
 #[no_mangle]
 pub extern "C" fn scp_write_record(
     section1: &[u8],

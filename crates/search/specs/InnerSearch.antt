@@ -1,4 +1,4 @@
--- What the search for the shortest stream says of costs and choices, on the tables as the engines hold them. Tables are numbered from 1.
+-- The costs and choices of the search for the shortest stream, on the tables as the engines hold them. Tables are numbered from 1.
 -- Costs stop at 524,281, one more than the bits of 65,535 bytes; 524,282 says that there is no stream. No public contract rests on this.
 use Prim.Native.Nat.{ℕ, suc, _+_, _-_, _*_, _^_, _≤_, _<_}
 use mathlib.Core.Path.{_≡_}

@@ -24,7 +24,7 @@ pub const TOO_LONG: usize = 524281;
 
 pub const NO_STREAM: usize = 524282;
 
-// A code of so many bits, where what is left costs a.
+// The cost of a code of `bits` bits, where what is left costs a.
 fn join(bits: usize, a: usize) -> usize
     requires { ⌜ bits ≤ 48 ⌝ }
     ensures { λ r. ⌜ r ≡ joinOf cap bits a ⌝ }
@@ -65,7 +65,7 @@ fn rank(tab: &[u32], t: usize, k: usize) -> usize
     f.word * bits::power(32 - f.prefix)
 }
 
-// Of structure k and another, or none, the one with the smaller word.
+// The structure with the smaller word: k, or `best`, which may be none.
 fn smaller(tab: &[u32], t: usize, k: usize, best: usize) -> usize
     requires { ⌜ Within (now tab) t × (k < countOf (now tab) t) × Place (now tab) t best ⌝ }
     ensures { λ r. ⌜ Smaller (now (tab .entry)) t k best r ⌝ }
@@ -139,8 +139,8 @@ fn unknown() -> [u8; 2048]
     [255; 2048]
 }
 
-// What is known of the value's structure of table t, without looking for it: 256 places a table, one for each value from -128 to 127.
-// Above 64 where it is not known yet, and for any other value.
+// The structure of table t that is known for the value, without looking for it: 256 places a table, one for each value from -128 to
+// 127. Above 64 where it is not known yet, and for any other value.
 fn recall(t: usize, v: usize, known: &[u8]) -> usize
     requires { ⌜ (1 ≤ t) × (t ≤ 8) × (length (now known) ≡ 2048) ⌝ }
     ensures { λ r. ⌜ ((tab : List ℕ) → Known tab (now (known .entry)) → r ≤ 64 → IsNearest tab t v r) ⌝ }
@@ -173,7 +173,7 @@ fn learn(tab: &[u32], t: usize, v: usize, known: &mut [u8]) -> usize
     k
 }
 
-// What structure k of table t costs for the value, where what is left costs a; 64 is none.
+// The cost of structure k of table t for the value, where what is left costs a; 64 is none.
 fn value_cost(tab: &[u32], t: usize, k: usize, a: usize) -> usize
     requires { ⌜ Within (now tab) t × Place (now tab) t k ⌝ }
     ensures { λ r. ⌜ (k ≡ 64 → r ≡ suc cap) × (k < 64 → r ≡ joinOf cap (bitsOf (now (tab .entry)) t k) a) × (r ≤ suc cap) ⌝ }
@@ -212,7 +212,7 @@ fn values(
     cur
 }
 
-// What structure k of table t costs as a switch.
+// The cost of structure k of table t as a switch.
 fn leap(tab: &[u32], t: usize, k: usize, cur: &[usize; 9]) -> usize
     requires { ⌜ Within (now tab) t × (k < countOf (now tab) t) ⌝ }
     ensures { λ r. ⌜ r ≡ leapOf (now (tab .entry)) (now (cur .entry)) t k ⌝ }
@@ -254,8 +254,8 @@ fn following(t: usize, n: usize) -> usize
     1
 }
 
-// Switches make costs smaller, in rounds, until n tables in a row do not change. After so many rounds every table is settled whose
-// cheapest way has so many switches, and a cheapest way comes to no table twice: so n rounds are enough, the last of them to see it.
+// Switches make costs smaller, in rounds, until n tables in a row do not change. After m rounds every table is settled whose cheapest
+// way has m switches, and a cheapest way visits no table twice: so n rounds are enough, the last of them to see it.
 fn settle(tab: &[u32], n: usize, first: [usize; 9]) -> [usize; 9]
     requires { ⌜ CompiledCount (now tab) n × (length first ≡ 9) ⌝ }
     ensures { λ r. ⌜ Settled (now (tab .entry)) n first r ⌝ }
@@ -277,7 +277,7 @@ fn settle(tab: &[u32], n: usize, first: [usize; 9]) -> [usize; 9]
     cur
 }
 
-// Of the structure `start` of table t, or none, and the switches that cost what the table does, the one with the smallest word.
+// The structure with the smallest word, among `start` of table t, or none, and the switches that cost what the table does.
 fn choose(tab: &[u32], t: usize, start: usize, cur: &[usize; 9]) -> usize
     requires { ⌜ Within (now tab) t × Place (now tab) t start ⌝ }
     ensures { λ r. ⌜ Picked (now (tab .entry)) (now (cur .entry)) t start (countOf (now (tab .entry)) t) r ⌝ }
@@ -415,8 +415,8 @@ fn one_table(tab: &[u32], xs: &[i16], order: usize, work: &mut [u8]) -> usize
     cost
 }
 
-// The bits of the shortest stream for the samples' differences: 524,281 stands for that many and more, 524,282 for no stream. The first
-// steps of the best streams go to the work space, a byte for each sample and table.
+// The bits of the shortest stream for the samples' differences: 524,281 means that many and more, 524,282 no stream. The first steps
+// of the best streams go to the work space, a byte for each sample and table.
 pub fn plan(tab: &[u32], n: usize, xs: &[i16], order: usize, work: &mut [u8]) -> usize
     requires { ⌜ CompiledCount (now tab) n × (length (now xs) ≤ 65536) × (length (now xs) * n ≤ length (now work)) ⌝ }
     ensures { λ r. ⌜ ((tables : List (List Structure)) → Compiled tables (now (tab .entry)) → length tables ≡ n

@@ -1,4 +1,4 @@
-// Reads the published streams by the library and writes what they come to, a line each: the values, or how many where they are more
+// Reads the published streams by the library and writes the result of each, a line each: the values, or how many where they are more
 // than 100, 12 where reading is stuck, and behind a bar the bits that the values took; or 7 where Section 2 is not right. The last two
 // lines are of the longest lead, 65,535 bytes: all switches, and all codes of one bit.
 ghost use Prim.Native.Nat.{_≤_};
@@ -87,7 +87,7 @@ fn put_number(n: usize) {
     io::print_decimal(STDOUT_FILENO, n as u64);
 }
 
-// One of so many values, 131,072 added, and a blank; of more than 100 none is shown.
+// One of `count` values, 131,072 added, and a blank; where there are more than 100 none is shown.
 fn put_value(x: usize, count: usize) {
     if 100 < count {
         return;

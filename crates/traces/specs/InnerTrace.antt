@@ -1,4 +1,4 @@
--- What a step of rebuilding says. No public contract rests on this.
+-- The meaning of a step of rebuilding. No public contract rests on this.
 use Prim.Native.Nat.{ℕ, _≤_, _<_}
 use mathlib.Core.List.{List}
 use lib.IntN.{ℤ}

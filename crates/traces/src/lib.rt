@@ -14,7 +14,7 @@ ghost use Rattle.traces.specs.InnerTrace.{traceFrom, SampledWithin};
 use reading::Cursor;
 use reading::Read;
 
-// What a step answers: a sample, 32,768 added, and the cursor behind its code; or the number of the fault met.
+// The answer of a step: a sample, 32,768 added, and the cursor behind its code; or the number of the fault met.
 pub enum Sampled {
     Sample(usize, Cursor),
     Fault(u8),

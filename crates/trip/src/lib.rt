@@ -1,1 +1,1 @@
-// What the writer writes, the reader gives back: a theorem over the definitions.
+// The reader gives back what the writer writes: a theorem over the definitions.

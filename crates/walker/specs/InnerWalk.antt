@@ -1,4 +1,4 @@
--- What a step shows in one piece. No public contract rests on this.
+-- The facts that a step shows, in one piece. No public contract rests on this.
 use Rattle.header.specs.declared.Step.{Step}
 use Rattle.walker.specs.declared.Facts.{Facts}
 use Rattle.walker.specs.Walk.{shownMore, shownTag}

@@ -1,6 +1,6 @@
 // A walk over the header fields of a record (01, Header fields and the patient identifier; 01, The forms we expect): a small struct
-// that holds Section 1 as a part of the lent record itself, and a place in it. A step shows what stands there; the next walker stands
-// behind it.
+// that holds Section 1 as a part of the lent record itself, and a place in it. A step shows what is there; the next walker is behind
+// it.
 ghost use mathlib.Core.Path.{_≡_};
 ghost use Prim.Native.Nat.{_+_};
 ghost use Rattle.header.specs.Fields.{stepAt, shownBytes};
@@ -17,7 +17,7 @@ pub struct Walker<'a> {
     pub at: usize,
 }
 
-// What a step shows: a field's bytes, a part of the section itself, and its tag; or, with `more` false, the end.
+// The answer of a step: a field's bytes, a part of the section itself, and its tag; or, with `more` false, the end.
 pub struct Shown<'a> {
     pub bytes: &'a [u8],
     pub tag: u8,
@@ -51,7 +51,7 @@ fn section_one<'a>(rec: &'a [u8], refusal: &mut u8) -> &'a [u8]
     }
 }
 
-// The tag of the field at a place, and whether one stands there.
+// The tag of the field at a place, and whether there is one.
 fn facts_at(s: &[u8], at: usize) -> Facts
     ensures { λ r. ⌜ r ≡ factsOf (stepAt (now (s .entry)) at) ⌝ }
 {
@@ -107,7 +107,7 @@ pub fn start<'a>(rec: &'a [u8], refusal: &mut u8) -> Walker<'a>
     Walker { section, at: 16 }
 }
 
-// What stands at the walker's place.
+// Shows the field at the walker's place, or the end.
 pub fn step<'a>(w: Walker<'a>) -> Shown<'a>
     ensures { λ r. ⌜
         (r .more ≡ shownMore (stepAt (now (w .entry .section)) (w .entry .at)))

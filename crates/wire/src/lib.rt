@@ -43,7 +43,7 @@ pub fn number32(s: &[u8], i: usize) -> usize
     number16(s, i) + number16(s, i + 2) * 65536
 }
 
-// What stands from `start` up to `end`, as far as it is there: that part of `s` itself.
+// The bytes from `start` up to `end`, as far as they are there: that part of `s` itself.
 pub fn part_of<'a>(s: &'a [u8], start: usize, end: usize) -> &'a [u8]
     ensures { λ r. ⌜ now r ≡ part (now (s .entry)) start end ⌝ }
 {
