@@ -89,7 +89,7 @@ pub place-end : (s : List ℕ) (zones k n : ℕ) → zones ≤ k → beatPlaceFr
 unfolding beatPlaceFrom
 place-end s zones k n h = let e : zones - k ≡ 0 = omega arith in rw e
 
--- a sample that zones do not reach past stands in none of the zones after them
+-- a sample that zones do not reach past lies in none of the zones after them
 place-behind : (samples : ℕ) (s : List ℕ) (n left k : ℕ) → ((j : ℕ) → k ≤ j → j < k + left → zoneRight samples s j ≡ true)
     → n ≤ lastBefore s k → beatPlaceFrom s left k n ≡ 0
 unfolding beatPlaceFrom lastBefore
@@ -111,7 +111,7 @@ module _ (samples : ℕ) (s : List ℕ) (zones k n : ℕ) (kept : section4Right 
   pub zone-here : RightZone samples s k
   zone-here = zone-right samples s k (beat-right samples s kept .right k (omega arith)) z
 
-  -- sample n stands before it, so in none from there on
+  -- sample n lies before it, so in none from there on
   pub place-before : n < zoneBegin s k → beatPlaceFrom s (zones - k) k n ≡ 0
   unfolding beatPlaceFrom lastBefore
   place-before g =
@@ -121,7 +121,7 @@ module _ (samples : ℕ) (s : List ℕ) (zones k n : ℕ) (kept : section4Right 
       let right = beat-right samples s kept .right in
       rw (l, miss-begin s k n g) (place-behind samples s n (zones - (k + 1)) (k + 1) (λ j a b. right j (omega arith)) last)
 
-  -- or it stands in it
+  -- or it lies in it
   pub place-in : zoneBegin s k ≤ n → n ≤ zoneEnd s k → beatPlaceFrom s (zones - k) k n ≡ n + fiducialOf s - qrsFiducial s k
   unfolding beatPlaceFrom inZone
   place-in g l =

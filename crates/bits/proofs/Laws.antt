@@ -90,7 +90,7 @@ unfolding numberAfter
 number-append a [] l = refl
 number-append a (b ∷ k) l = number-append (a * 2 + b) k l
 
--- the number that bits are read on after stands above theirs
+-- the number that bits are read on after is moved up by as many bits, and theirs is added
 pub number-after : (a : ℕ) (l : List ℕ) → numberAfter a l ≡ a * 2 ^ length l + numberOf l
 unfolding numberAfter
 number-after a [] = omega arith

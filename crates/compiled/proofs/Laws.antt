@@ -1,4 +1,4 @@
--- What a form holds, and what is read of tables that are ready: what the proofs of this crate and of those above it cite. Assumes nothing.
+-- Laws of a form's numbers, and of reading tables that are ready, for the proofs of this crate and of those above it. Assumes nothing.
 use Prim.Native.Nat.{ℕ, zero, suc, _*_, _^_, _≤_, _<_}
 use mathlib.Core.Path.{_≡_, refl, ap}
 use mathlib.Core.Bool.{Bool, true, false, cond}

@@ -26,7 +26,7 @@ use Rattle.compiled.proofs.Laws.{held-count}
 -- ---- the numbers w are put into a list from place a on
 
 module _ (a : ℕ) (w l : List ℕ) (fits : a + length w ≤ length l) where
-  -- w stands there
+  -- w is there
   put-inside : (r : List ℕ) (i j : ℕ) → i ≡ a + j → j < length w → getD (take a l ++ (w ++ r)) i 0 ≡ getD w j 0
   put-inside r i j e h =
       let n = length-take-le a l (omega arith) in

@@ -1,4 +1,4 @@
--- What is asked of a job, the leads' samples and streams, and the record's parts. Assumes nothing.
+-- The conditions on a job, the leads' samples and streams, and the record's parts. Assumes nothing.
 use Prim.Native.Nat.{ℕ, suc, _+_, _-_, _*_, _<_, _≤_}
 use mathlib.Core.Path.{_≡_, ap, _∙_}
 use mathlib.Core.Bool.{Bool, true, false, not, _&&_, cond, and-eq-true-iff}

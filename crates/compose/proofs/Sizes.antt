@@ -1,4 +1,4 @@
--- What is found for the leads, one by one from the last back, and what it says of all. Assumes nothing.
+-- The streams found for the leads, one by one from the last back, and what they say of all. Assumes nothing.
 use Prim.Native.Nat.{ℕ, zero, suc, _+_, _-_, _<_, _≤_}
 use mathlib.Core.Path.{_≡_, refl, ap, _∙_}
 use mathlib.Core.Bool.{Bool, true, false, cond}
@@ -81,7 +81,7 @@ module _ (counts : List ℕ) (k : ℕ) (h : 0 < k) (g : k ≤ length counts) whe
   total-back = rw (back-cons counts k h g)
 
   module _ (at all : ℕ) (here : at + total (drop k counts) ≡ all) (sum : total counts ≡ all) where
-    -- the samples of the lead before stand before this place
+    -- the samples of the lead before come before this place
     pub room-back : getD counts (k - 1) 0 ≤ at
     room-back = omega (arith, total-back, total-drop counts (k - 1))
 
@@ -132,7 +132,7 @@ sized-none s2 order counts xs sizes =
     let e : length counts - length counts ≡ 0 = omega arith in
     rw (e, drop-length counts) record { founds = []; all = done; says = refl; each = refl }
 
--- so many bits are found at most
+-- at most this many bits are found
 pub sized-most : {tables : List (List Structure)} {vs : List ℤ} {bits : ℕ} → Sized tables vs bits → bits ≤ 524282
 sized-most (none, f, e) = omega arith
 sized-most (some bs, f, e) = omega arith

@@ -122,7 +122,7 @@ module _ (s2 : List ℕ) (order : ℕ) (counts : List ℕ) (xs : List ℤ) (size
       omega (arith, total-split counts (k - 1), total-back counts k h g, room-back counts k h g at all here sum) in
       (w .0, rw (lent counts k h g at all here sum xs) (rw e at (w .1)), w .2, rw (is, S .each) (w .3))
 
-  -- its bytes stand before those of the leads behind
+  -- its bytes come before those of the leads behind
   pub put-more : (part zs : List ℕ) (from : ℕ) → from ≤ length part → getD sizes (k - 1) 0 ≤ from
       → ((bs : List ℕ) → Shortest (tablesGiven s2) (differences order samples) bs → zs ≡ packed bs)
       → ((streams : List (List ℕ)) → StreamsFor s2 order (cut (drop k counts) (drop at xs)) streams → drop from part ≡ joined streams)

@@ -1,4 +1,4 @@
--- What the bits found say, 15, 16 and 11 for the output, and what is answered then. Assumes nothing.
+-- The meaning of the bits found, 15, 16 and 11 for the output, and the answer then. Assumes nothing.
 use Prim.Native.Nat.{ℕ, zero, suc, _+_, _/_, _≤_, _<_}
 use mathlib.Core.Path.{_≡_, refl, sym, ap, _∙_}
 use mathlib.Core.List.{List, [], _++_}

@@ -58,7 +58,7 @@ pub holds-some : (out : List ℕ) (s : Sink) → s .part < 8 → s .acc < 2 ^ s 
     → Holds out s (bitsIn (take (s .at) out) ++ highFirst (s .part) (s .acc))
 holds-some out s part acc at = record { bits = refl; part = part; acc = acc; at = at }
 
--- what stands behind a sink's place stays as it was, though more is put
+-- the bytes behind a sink's place stay as they were, though more is put
 pub rest-on : (out₀ out out′ : List ℕ) (s r : Sink) (w c : List ℕ) → Holds out s w → Holds out′ r (w ++ c)
     → drop (s .at) out ≡ drop (s .at) out₀ → drop (r .at) out′ ≡ drop (r .at) out → drop (r .at) out′ ≡ drop (r .at) out₀
 rest-on out₀ out out′ s r w c h g before here =
@@ -109,7 +109,7 @@ module _ {tables : List (List Structure)} {tab : List ℕ} (ready : Compiled tab
   first : Best (rule tables) t (getD vs i (pos 0) ∷ drop (i + 1) vs) (O .s)
   first = rw (add-one i) (rw (drop-cons vs i (pos 0) inside) at (O .best))
 
-  -- the structure that stands in the work space is the next step
+  -- the structure in the work space is the next step
   hop : Hop (rule tables) (getD vs i (pos 0)) (drop (i + 1) vs) t (getD work (i * n + (t - 1)) 0)
   hop =
       subst (λ (m : ℕ). Hop (rule tables) (getD vs i (pos 0)) (drop (i + 1) vs) t (getD work (i * m + (t - 1)) 0)) many
@@ -260,7 +260,7 @@ module _ {tab : List ℕ} {n : ℕ} {vs : List ℤ} {total : ℕ} {out₀ out : 
             on-switch ready vs work n total many (plan tables ready many .trail) few out sink i t left O more f e out′ sink′
             (put (O .w) (O .holds)) h)
 
--- the walk went on from where it had come to
+-- the walk went on from where it was
 pub going-then : {tab : List ℕ} {n : ℕ} {vs : List ℤ} {total : ℕ} {out₀ out out′ : List ℕ} {s s′ : Sink} {i t left i′ t′ left′ : ℕ}
     → CompiledCount tab n → PartWrittenBy tab n vs total out₀ out s i t left → PartWrittenBy tab n vs total out out′ s′ i′ t′ left′ → left′ < left
     → PartWrittenBy tab n vs total out₀ out′ s′ i′ t′ left′
@@ -271,7 +271,7 @@ going-then {out₀ = out₀} {out = out} {s = s} {s′ = s′} filled G H less =
       on = H .on;
     }
 
--- nothing is left: the stream stands at the front
+-- nothing is left: the stream is at the front
 pub going-end : {tab : List ℕ} {n : ℕ} {vs : List ℤ} {total : ℕ} {out₀ out : List ℕ} {sink : Sink} {i t left : ℕ}
     (G : PartWrittenBy tab n vs total out₀ out sink i t left) → left ≡ 0 → (out′ : List ℕ)
     → ((bs : List ℕ) → Holds out sink bs → out′ ≡ packed bs ++ drop (length (packed bs)) out)

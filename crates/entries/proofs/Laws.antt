@@ -1,4 +1,4 @@
--- What the proofs of the crates above cite. Assumes nothing.
+-- Laws that the proofs of the crates above cite. Assumes nothing.
 use Prim.Native.Nat.{ℕ, _≤_, _<_}
 use mathlib.Core.Path.{_≡_}
 use mathlib.Core.Bool.{true, not, and-eq-true-iff}

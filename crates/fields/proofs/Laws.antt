@@ -1,4 +1,4 @@
--- What the proofs of this crate and of those above it cite. Assumes nothing.
+-- Laws that the proofs of this crate and of those above it cite. Assumes nothing.
 use Prim.Native.Nat.{ℕ, suc, _+_, _-_, _≤_, _<_}
 use mathlib.Core.Path.{_≡_, refl, ap}
 use mathlib.Core.Bool.{Bool, true, false, cond, and-false}

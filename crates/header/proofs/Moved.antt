@@ -65,7 +65,7 @@ unfolding fieldsEnd
 end-moved at [] = refl
 end-moved at (f ∷ fs) = end-moved (f .end) fs
 
--- ---- data s that stand in r behind a header
+-- ---- data s that lie in r behind a header
 
 module _ {r s : List ℕ} (m : Moved r 16 s) where
   field-moved : (at : ℕ) → fieldAt r (16 + at) ≡ moved (fieldAt s at)
@@ -98,7 +98,7 @@ module _ {r s : List ℕ} (m : Moved r 16 s) where
       go true e g = let same : fieldAt s at ≡ f = cc in rw (whole-moved at e, field-moved at, same)
       go false e g = unlike cc
 
-  -- at an end mark no field stands
+  -- at an end mark there is no field
   step-end : (at : ℕ) → byteAt s at ≡ 255 → stepAt r (16 + at) ≡ End
   unfolding stepAt isField
   step-end at e = rw (m .byte at, e) (go (leb (16 + at + 3) (length r)))
@@ -191,7 +191,7 @@ module _ {r s : List ℕ} (m : Moved r 16 s) where
       rw (fields-moved (p .0), end-moved 0 (fieldsFrom s 0), ends-moved (fieldsEnd 0 (fieldsFrom s 0)) (p .0))
       (tags-moved (fieldsFrom s 0) (p .1))
 
-  -- and each field stands there as in the data
+  -- and each field is there as in the data
   pub occurring-there : section1Right 0 s 0 ≡ true → (n t : ℕ)
       → occurring n (withTag t (fieldsFrom r 16)) ≡ movedStep (occurring n (withTag t (fieldsFrom s 0)))
   occurring-there g n t =

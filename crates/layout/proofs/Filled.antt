@@ -49,7 +49,7 @@ pub filled-store : {l q x : List ℕ} {j k : ℕ} (v e : ℕ) → Filled l j q k
 filled-store {l} {q} {x} {j} {k} v e f h g =
     filled-put (v ∷ []) 1 e f refl g (rw (add-one k) (set-split x k v h))
 
--- what stands from j on
+-- the elements from j on
 pub filled-behind : {l q x : List ℕ} {j k : ℕ} → Filled l j q k x → drop j x ≡ q ++ drop k l
 filled-behind {l} {q} {x} {j} {k} f = ap (drop j) (f .is) ∙ drop-at (take j l) (q ++ drop k l) j (f .start)
 

@@ -30,7 +30,7 @@ pub sealed-is : (id version : ℕ) (reserved l contents : List ℕ) → drop 16 
 unfolding sectionBytes
 sealed-is id version reserved l contents e n = rw (e, n)
 
--- data are put behind the header, and then their spare byte, as 0: they stand there evened
+-- data are put behind the header, and then their spare byte, as 0: they are there evened
 pub spare-put : {l x y : List ℕ} {k : ℕ} (contents : List ℕ) → Filled l 16 contents k x → length x ≡ sectionLength (length contents)
     → y ≡ take k x ++ replicate (length x - k) 0 → drop 16 y ≡ evened contents
 unfolding evened

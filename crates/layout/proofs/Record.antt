@@ -52,7 +52,7 @@ module _ (step interval order : ℕ) (sizes : List ℕ) (streams : List (List �
 in-a-row : (a b c d e : List ℕ) → (a ++ (b ++ (c ++ d))) ++ e ≡ a ++ (b ++ (c ++ (d ++ e)))
 in-a-row a b c d e = simp append-assoc
 
--- before Section 6, which is there, stand the pointers and the others; then come the size and the check
+-- before Section 6, which is there, come the pointers and the others; then come the size and the check
 module _ (version : ℕ) (data1 data2 data3 data6 l x o p0 p : List ℕ) (size1 size2 size3 : ℕ) (e1 : size1 ≡ sectionLength (length data1))
     (e2 : size2 ≡ section2Size (length data2)) (e3 : size3 ≡ sectionLength (length data3))
     (within : 142 + size1 + size2 + size3 ≤ length l) where

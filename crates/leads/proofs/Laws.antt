@@ -1,4 +1,4 @@
--- What the proofs of this crate cite. Assumes nothing.
+-- Laws that the proofs of this crate cite. Assumes nothing.
 use Prim.Native.Nat.{ℕ, zero, suc, _+_, _-_, _≤_, _<_}
 use mathlib.Core.Path.{_≡_, refl, sym, ap, _∙_}
 use mathlib.Core.Bool.{Bool, true, false, cond, and-eq-true-iff}
@@ -35,7 +35,7 @@ module _ {A : Type 0} where
   drop-more l l₀ i x e =
       drop-set-lt (i + 1) l i x (omega arith) ∙ sym (drop-drop 1 i l) ∙ ap (drop 1) e ∙ drop-drop 1 i l₀
 
-  -- it stands behind those before it
+  -- it comes behind those before it
   pub take-more : (l : List A) (i : ℕ) (x : A) → i < length l → take (i + 1) (set l i x) ≡ take i l ++ (x ∷ [])
   take-more l i x h = rw (add-one i) (take-suc-set l i x h)
 
@@ -101,7 +101,7 @@ pub out-fault : (n : ℕ) (xs out : List ℤ) (t : Trace) → (n ≡ 0 → ⊥) 
 out-fault zero xs out t h e = absurd (h refl)
 out-fault (suc n) xs out t h e = rw (← e)
 
--- a trace that is rebuilt stands at the front of the output
+-- a trace that is rebuilt is at the front of the output
 pub out-rebuilt : (n : ℕ) (xs out : List ℤ) (t : Trace) → n ≡ 0 → traceOf n xs ≡ t → xs ++ drop (length xs) out ≡ outAfter t out
 out-rebuilt n xs out t h e = rw (← traced n xs t h e)
 

@@ -11,7 +11,7 @@ use Rattle.bits.specs.Bits.{highFirst, bitsIn, numberAfter, numberOf}
 use Rattle.bits.proofs.Laws.{Small, small-take, small-drop, length-highFirst, number-append, number-high, own-bits}
 use Rattle.packing.specs.Packing.{packedIn, packed, bytesFor}
 
--- zeros behind bits or bytes are what stands past their end
+-- zeros behind bits or bytes are read as the places past their end are
 pub zeros-behind : (s : List ℕ) (n j : ℕ) → getD (s ++ replicate n 0) j 0 ≡ getD s j 0
 zeros-behind [] zero j = refl
 zeros-behind [] (suc n) zero = refl
@@ -85,7 +85,7 @@ length-first bs = simp (length-take, length-append) (omega arith)
 small-first : (bs : List ℕ) → Small bs → Small (take 8 (bs ++ replicate 8 0))
 small-first bs h = small-take 8 (bs ++ replicate 8 0) (λ i. rw (zeros-behind bs 8 i) (h i))
 
--- so many bytes are so many
+-- packing into n bytes gives n bytes
 length-in : (n : ℕ) (bs : List ℕ) → length (packedIn n bs) ≡ n
 unfolding packedIn
 length-in zero bs = refl

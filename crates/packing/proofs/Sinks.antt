@@ -1,4 +1,4 @@
--- What a sink holds: bits put behind its own, byte by byte, and the bytes that they are in the end. Assumes nothing.
+-- A sink's bits: bits put behind its own, byte by byte, and the bytes that they are in the end. Assumes nothing.
 use Prim.Native.Nat.{ℕ, suc, _+_, _-_, _*_, _/_, _%_, _^_, _≤_, _<_}
 use mathlib.Core.Path.{_≡_, sym, ap, _∙_}
 use mathlib.Core.List.{List, [], _∷_, _++_, append-assoc, append-nil}
@@ -24,7 +24,7 @@ word-room p n a w hp hn ha hw = digits-room 2 (p + n) 39 (omega arith) (omega ar
 pub last-room : (p a : ℕ) → p < 8 → a < 2 ^ p → a * 2 ^ (8 - p) < 256
 last-room p a h l = let e : p + (8 - p) ≡ 8 = omega arith in rw e at (shl-lt p (8 - p) l)
 
--- a byte is written: eight of the bits that are left stand in the bytes now
+-- a byte is written: eight of the bits that are left are in the bytes now
 pub byte-more : (out : List ℕ) (at part x b : ℕ) → at < length out → 8 ≤ part → b ≡ x / 2 ^ (part - 8) % 256
     → bitsIn (take (at + 1) (set out at b)) ++ highFirst (part - 8) x ≡ bitsIn (take at out) ++ highFirst part x
 unfolding bitsIn
@@ -43,7 +43,7 @@ rest-later n m k l h e = sym (later k) ∙ ap (drop (m - n)) e ∙ later l
     later : (o : List ℕ) → drop (m - n) (drop n o) ≡ drop m o
     later o = let d : n + (m - n) ≡ m = omega arith in drop-drop (m - n) n o ∙ ap (λ (i : ℕ). drop i o) d
 
--- what stands behind the byte stays
+-- the bytes behind the byte stay
 pub byte-rest : (out out₀ : List ℕ) (at b : ℕ) → drop at out ≡ drop at out₀ → drop (at + 1) (set out at b) ≡ drop (at + 1) out₀
 byte-rest out out₀ at b e =
     drop-set-lt (at + 1) out at b (omega arith) ∙ rest-later at (at + 1) out out₀ (omega arith) e
@@ -71,12 +71,12 @@ holds-length out s bs h =
     ∙ rw (length-append (bitsIn p) t, length-bitsIn p, length-highFirst (s .part) (s .acc), length-take-le (s .at) out (h .at))
 
 module _ (out : List ℕ) (s : Sink) (bytes : Bytes out) (bs : List ℕ) (h : Holds out s bs) where
-  -- the bytes written stand first in what all bits are packed into
+  -- the bytes written come first in what all bits are packed into
   front : packed bs ≡ take (s .at) out ++ packed (highFirst (s .part) (s .acc))
   front =
       ap packed (sym (h .bits)) ∙ packed-front (take (s .at) out) (highFirst (s .part) (s .acc)) (bytes-take (s .at) out bytes)
 
-  -- every bit stands in a byte
+  -- every bit is in a byte
   pub end-whole : s .part ≡ 0 → out ≡ packed bs ++ drop (length (packed bs)) out
   unfolding packed packedIn highFirst
   end-whole e =

@@ -8,7 +8,7 @@ use native.Mathlib.Nat.{lt-trans}
 use lib.ListN.{length}
 use Rattle.paths.specs.Before.{Before, here, there}
 
--- whatever stands behind
+-- whatever follows
 pub before-tails : {a b : List ℕ} (x y : List ℕ) → Before a b → Before (a ++ x) (b ++ y)
 before-tails x y (here h) = here h
 before-tails x y (there h) = there (before-tails x y h)

@@ -1,5 +1,5 @@
--- What the search looks at in a layer is enough: of each table one structure that gives the value, and the switches. All structures of a
--- table that give the value lead to the same place, so the shortest of their words costs least. Assumes nothing.
+-- In a layer the search looks at enough: of each table one structure that gives the value, and the switches. All structures of a table
+-- that give the value lead to the same place, so the shortest of their words costs least. Assumes nothing.
 use Prim.Native.Nat.{ℕ, suc, _+_, _≤_, _<_, min}
 use mathlib.Core.Path.{_≡_, refl, _∙_}
 use mathlib.Core.Bool.{Bool, true, false, cond}

@@ -1,4 +1,4 @@
--- What the loop that puts the pointers goes by. Assumes nothing.
+-- Laws for the loop that puts the pointers. Assumes nothing.
 use Prim.Native.Nat.{ℕ, zero, suc, _+_, _*_}
 use mathlib.Core.Path.{_≡_, refl, sym, ap, _∙_}
 use mathlib.Core.List.{List, [], _∷_, _++_, append-assoc}

@@ -1,4 +1,4 @@
--- Reading a value does not depend on what stands behind its code. Assumes nothing.
+-- Reading a value does not depend on the bits behind its code. Assumes nothing.
 use Prim.Native.Nat.{ℕ, zero, suc, _≤_, _<_}
 use mathlib.Core.Path.{_≡_, refl, sym, ap, _∙_}
 use mathlib.Core.Bool.{true}
@@ -88,7 +88,7 @@ module _ (n : ℕ) (tables : List (List Structure)) (right : every (tableRight n
   coded-within zero t bs v u rest l h = absurd (omega arith)
   coded-within (suc f) t bs v u rest l h = coded-step f (coded-within f) t bs v u rest l h
 
-  -- the next value, whatever stands behind
+  -- the next value, whatever follows
   pub next-behind : (t : ℕ) (bs : List ℕ) (v : ℤ) (u : ℕ) (rest : List ℕ) → readNext tables t bs ≡ gave v u rest
       → readNext tables t (bs ++ z) ≡ gave v u (rest ++ z)
   unfolding readNext Shorter

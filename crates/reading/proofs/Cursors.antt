@@ -72,7 +72,7 @@ high-small x q h =
 
 -- ---- the bits that are left of a stream
 
--- so many are left from a place on
+-- how many are left from a place on
 pub length-left : (s : List ℕ) (at : ℕ) → length (drop at (bitsIn s)) ≡ length s * 8 - at
 length-left s at = simp (length-drop, length-bitsIn)
 

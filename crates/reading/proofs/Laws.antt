@@ -30,7 +30,7 @@ begins-parts p c l h =
     let split = rw (length-lowFirst p c) at (begins-split (lowFirst p c) l h) in
     (split, omega (arith, ap length split, length-lowFirst p c, length-append (lowFirst p c) (drop p l)))
 
--- where a structure stands in its table, and that the bits begin with its prefix
+-- where a structure is in its table, and that the bits begin with its prefix
 pub record Matched (cs : List Structure) (bs : List ℕ) (c : Structure) : Type 0 where
   pub place : ℕ
   pub there : place < length cs

@@ -1,4 +1,4 @@
--- What is written by a structure of a right table is read back, whatever stands behind it. Assumes nothing.
+-- A value written by a structure of a right table is read back, whatever follows it. Assumes nothing.
 use Prim.Native.Nat.{ℕ, zero, suc, _<_, _^_}
 use mathlib.Core.Path.{_≡_, refl, sym, ap, _∙_}
 use mathlib.Core.Bool.{Bool, true, false, not, _&&_}
@@ -51,7 +51,7 @@ matching-begun cs free k h bs e =
     let p = prefixOf (getD cs k noStructure) in
     ap (matching cs) (begins-split p bs e) ∙ matching-apart cs free k h (drop (length p) bs)
 
--- a structure c stands at place k of a right table
+-- a structure c is at place k of a right table
 module _ (n : ℕ) (tables : List (List Structure)) (right : every (tableRight n) tables ≡ true) (table : ℕ) (k : ℕ) (c : Structure)
     (there : k < length (tableOf tables table)) (stands : getD (tableOf tables table) k noStructure ≡ c) (bs : List ℕ) where
   -- it is the one that its own prefix matches
@@ -61,7 +61,7 @@ module _ (n : ℕ) (tables : List (List Structure)) (right : every (tableRight n
       let free = table-there n tables right table (omega arith) .free in
       rw stands at (matching-apart cs (free-at cs free) k there bs)
 
-  -- what stands behind its prefix
+  -- the bits behind its prefix
   behind : drop (c .prefix) (prefixOf c ++ bs) ≡ bs
   behind = drop-at (prefixOf c) bs (c .prefix) (length-lowFirst (c .prefix) (c .code))
 

@@ -1,4 +1,4 @@
--- What the proofs of this crate and of those above it cite. Assumes nothing.
+-- Laws that the proofs of this crate and of those above it cite. Assumes nothing.
 use Prim.Native.Nat.{ℕ}
 use mathlib.Core.Path.{_≡_, refl}
 use mathlib.Core.Bool.{true, false}

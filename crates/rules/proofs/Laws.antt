@@ -1,4 +1,4 @@
--- What a record has of which a lead can be read: none of the refusals 1 to 10 applies. Assumes nothing.
+-- The properties of a record from which a lead can be read: none of the refusals 1 to 10 applies. Assumes nothing.
 use Prim.Native.Nat.{ℕ, _≤_}
 use mathlib.Core.Path.{_≡_, refl}
 use mathlib.Core.Bool.{Bool, true, false, not, _||_, cond, and-eq-true-iff}
@@ -22,7 +22,7 @@ pub record Sound (r : List ℕ) (place : ℕ) : Type 0 where
   pub first : 1 ≤ place
   pub last : place ≤ leadCountOf r
 
--- where refusals that stand before others answer 0 with them, both do
+-- where refusals that come before others answer 0 with them, both do
 pub both-passed : (first later : ℕ) → cond (eqb first 0) later first ≡ 0 → (first ≡ 0) × (later ≡ 0)
 both-passed first later = go (eqb first 0) refl
   where
@@ -30,7 +30,7 @@ both-passed first later = go (eqb first 0) refl
     go true e h = (eqb-true first 0 e, h)
     go false e h = absurd (eqb-false first 0 e h)
 
--- a rule that is asked only where something stands
+-- a rule that is asked only where something is present
 pub asked : (b c : Bool) → not b || c ≡ true → b ≡ true → c ≡ true
 asked true c h e = h
 asked false c h e = unlike cc

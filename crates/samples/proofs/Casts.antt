@@ -1,4 +1,4 @@
--- What the casts between a sample and the number that it is held as come to. Assumes nothing.
+-- The results of the casts between a sample and the number that it is held as. Assumes nothing.
 use Prim.Native.Nat.{ℕ, suc, _+_, _-_, _<_}
 use mathlib.Core.Path.{_≡_, refl, ap, _∙_}
 use mathlib.Core.Bool.{Bool, true, false, cond}
@@ -25,7 +25,7 @@ lower-fits x h = go (ltb x 32768) refl
     go true e = record { sfits = omega (arith, ltb-true x 32768 e) }
     go false e = record { sfits = omega (arith, ltb-false x 32768 e) }
 
--- so the cast, the difference and the cast back come to it
+-- so the cast, the difference and the cast back give it
 module _ (x : ℕ) (h : x < 65536) where
   pub low-sum : toZ w32 x -ℤ pos 32768 ≡ fromZero 32768 x
   unfolding fromZero
@@ -52,7 +52,7 @@ raise (negsuc n) f =
     let e : 32768 - suc r ≡ n = omega arith in
     (r, record { sum = simp (le-ltb 32768 (suc n) (omega arith)); back = simp (lt-ltb r 32768 (omega arith), e); small = omega arith })
 
--- so the casts and the sum come to it
+-- so the casts and the sum give it
 module _ (z : ℤ) (f : SFits w16 z) where
   pub up-wide : toZ w32 (ofZ w32 (toZ w16 (ofZ w16 z))) ≡ z
   up-wide = ap (λ (y : ℤ). toZ w32 (ofZ w32 y)) (toZ-ofZ w16 z f) ∙ toZ-ofZ w32 z (wider z f)

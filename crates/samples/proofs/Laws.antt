@@ -90,7 +90,7 @@ module _ (order place : ℕ) (v last other : ℤ) (o : 2 ≤ order) (h : 2 ≤ p
 swap : (a b c : ℤ) → a +ℤ b +ℤ c ≡ a +ℤ c +ℤ b
 swap a b c = +ℤ-assoc a b c ∙ ap (λ (z : ℤ). a +ℤ z) (+ℤ-comm b c) ∙ sym (+ℤ-assoc a c b)
 
--- the value stored for a sample stands for that sample
+-- the value stored for a sample decodes to that sample
 pub sample-stored : (order place : ℕ) (x last other : ℤ) → sampleOf order place (storedOf order place x last other) last other ≡ x
 unfolding sampleOf storedOf
 sample-stored zero place x last other = refl
@@ -109,7 +109,7 @@ sample-stored (suc (suc k)) place x last other = go (ltb place 2)
     go true = refl
     go false = there-and-back (last +ℤ last)
 
--- and a value is what is stored for the sample that it stands for
+-- and a value is what is stored for the sample that it decodes to
 pub stored-sample : (order place : ℕ) (v last other : ℤ) → storedOf order place (sampleOf order place v last other) last other ≡ v
 unfolding sampleOf storedOf
 stored-sample zero place v last other = refl

@@ -1,4 +1,4 @@
--- What the numbers of a table say of its rule. Assumes nothing.
+-- The numbers of a table, and what they say of its rule. Assumes nothing.
 use Prim.Native.Nat.{ℕ, suc, _+_, _-_, _*_, _^_, _≤_, _<_}
 use mathlib.Core.Path.{_≡_, refl, sym, ap, _∙_}
 use mathlib.Core.Bool.{true}

@@ -56,7 +56,7 @@ module _ (xs ys : List ℕ) (a n : ℕ) (l : length ys ≡ n) (r : a + n ≤ len
       ∙ getD-drop (a + n) xs (j - (a + n)) 0
       ∙ ap (λ (m : ℕ). getD xs m 0) e
 
--- one value more, the one at p, whose first steps ys stand in the work space now
+-- one value more, the one at p, whose first steps ys are in the work space now
 module _ (tables : List (List Structure)) (vs : List ℤ) (work after ys costs : List ℕ) (n p i : ℕ) (v : ℤ) (all : length tables ≡ n)
     (e : i ≡ p + 1) (hp : p < length vs) (is : v ≡ getD vs p (pos 0)) (L : Layer tables v (drop i vs) costs ys)
     (new : (t : ℕ) → t < n → getD after (p * n + t) 0 ≡ getD ys t 0) (old : (j : ℕ) → p * n + n ≤ j → getD after j 0 ≡ getD work j 0)

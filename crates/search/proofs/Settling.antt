@@ -49,7 +49,7 @@ total-set [] i r h l = absurd (omega arith)
 total-set (x ∷ xs) zero r h l = omega arith
 total-set (x ∷ xs) (suc i) r h l = omega (arith, total-set xs i r (omega arith) l)
 
--- the last tables before t, round the n tables, are shut: so many
+-- the last `quiet` tables before t, round the n tables, are shut
 pub record Quiet (tab : List ℕ) (n : ℕ) (costs : List ℕ) (t quiet : ℕ) : Type 0 where
   pub behind : (u : ℕ) → 1 ≤ u → u < t → t ≤ u + quiet → Shut tab costs u
   pub around : (u : ℕ) → t ≤ u → u ≤ n → t + n ≤ u + quiet → Shut tab costs u

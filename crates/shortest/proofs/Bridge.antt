@@ -1,5 +1,4 @@
--- What the relation of the search reads is what the reading rule reads, for right tables; so the best stream is the shortest. Assumes
--- nothing.
+-- The relation of the search reads what the reading rule reads, for right tables; so the best stream is the shortest. Assumes nothing.
 use Prim.Native.Nat.{ℕ, zero, suc, _+_, _^_, _≤_, _<_}
 use mathlib.Core.Path.{_≡_, refl, sym, ap, _∙_}
 use mathlib.Core.Bool.{Bool, true, false, cond}
@@ -64,7 +63,7 @@ pub length-word : (c : Structure) (v : ℤ) → length (wordOf c v) ≡ c .prefi
 unfolding wordOf
 length-word c v = simp (length-append, length-lowFirst, length-highFirst)
 
--- what stands in the table
+-- the structures of the table
 module _ (n : ℕ) (tables : List (List Structure)) (right : every (tableRight n) tables ≡ true) (t k : ℕ)
     (hk : k < length (tableOf tables t)) where
   -- a structure of a right table is right
@@ -138,7 +137,7 @@ read-value-bits (suc w) base t bs v next rest small h = go (leb r (length bs)) r
     go false e g = unlike cc
 
 module _ (n : ℕ) (tables : List (List Structure)) (right : every (tableRight n) tables ≡ true) where
-  -- a value was read by a word, behind which any bits may stand, and any stream from there on
+  -- a value was read by a word, which any bits may follow, and any stream from there on
   pub record Behind (t : ℕ) (bs : List ℕ) (v : ℤ) (next : ℕ) (rest : List ℕ) : Type 0 where
     pub small : Small rest
     pub word : List ℕ

@@ -46,7 +46,7 @@ valuesFrom f i zero = []
 valuesFrom f i (suc n) = f i ∷ valuesFrom f (suc i) n
 
 module _ {A : Type 0} (G : Codes A) (cap : ℕ) where
-  -- each table's cost made as small as its structures make it, so many times over
+  -- each table's cost made as small as its structures make it, in this many rounds
   abbrev pub rounds : ℕ → List ℕ → A → List ℕ → List ℕ
   rounds zero next v cur = cur
   rounds (suc n) next v cur =

@@ -1,4 +1,4 @@
--- What reading a value takes from a stream is a word of its own: whatever stands behind it, the same value is read. Assumes nothing.
+-- Reading a value takes from a stream a word of its own: whatever follows it, the same value is read. Assumes nothing.
 use Prim.Native.Nat.{ℕ, suc}
 use mathlib.Core.Path.{_≡_, sym, _∙_}
 use mathlib.Core.Bool.{true}

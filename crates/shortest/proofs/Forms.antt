@@ -1,5 +1,5 @@
--- What a structure's form, on which the engines run, says of its code: what it does for a value that is held with 131,072 added, its
--- word, and which of two words of a table is the smaller. Assumes nothing.
+-- A structure's form, on which the engines run, and what it says of its code: what it does for a value that is held with 131,072
+-- added, its word, and which of two words of a table is the smaller. Assumes nothing.
 use Prim.Native.Nat.{ℕ, zero, suc, _+_, _-_, _*_, _/_, _%_, _^_, _≤_, _<_}
 use mathlib.Core.Path.{_≡_, refl, sym, ap, _∙_}
 use mathlib.Core.Bool.{Bool, true, false, cond, not, _&&_}
@@ -39,7 +39,7 @@ use Rattle.shortest.proofs.Bridge.{structure-fine, length-word}
 
 -- ---- values held with 131,072 added
 
--- so many bits of a multiple less a number
+-- a multiple of p less a number, modulo p
 back-mod : (p q d r : ℕ) → r < p → (suc (q + d) * p - suc (q * p + r)) % p ≡ p - suc r
 back-mod p q d r h =
     let e : suc (q + d) * p - suc (q * p + r) ≡ d * p + (p - suc r) = omega arith in

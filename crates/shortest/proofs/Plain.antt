@@ -108,7 +108,7 @@ plain-taken t bs v next rest small h = go (leb 16 (length bs)) refl h
 
 -- ---- all values
 
--- the first value's bytes stand before the others'
+-- the first value's bytes come before the others'
 plain-cons : (v : ℤ) (vs : List ℤ) → plainBits (v ∷ vs) ≡ bitsIn (bytesOf 2 (twos 16 v)) ++ plainBits vs
 unfolding plainBits plainBytes
 plain-cons v vs = bitsIn-append (bytesOf 2 (twos 16 v)) (plainBytes vs)

@@ -1,4 +1,4 @@
--- What the proofs of this crate and of those above it cite. Assumes nothing.
+-- Laws that the proofs of this crate and of those above it cite. Assumes nothing.
 use Prim.Native.Nat.{ℕ, zero, suc, _+_, _-_, _*_, _/_, _%_, _^_, _≤_, _<_}
 use mathlib.Core.Path.{_≡_, refl, sym, ap}
 use mathlib.Core.Bool.{Bool, true, false, not, _&&_, cond, and-false, and-eq-true-iff}
@@ -41,7 +41,7 @@ unfolding structuresAt
 length-structuresAt s o zero = refl
 length-structuresAt s o (suc n) = ap suc (length-structuresAt s (o + 9) n)
 
--- each stands nine bytes behind the one before
+-- each is nine bytes behind the one before
 pub getD-structuresAt : (s : List ℕ) (o n k : ℕ) → k < n → getD (structuresAt s o n) k noStructure ≡ structureAt s (o + 9 * k)
 unfolding structuresAt
 getD-structuresAt s o zero k h = absurd (omega arith)

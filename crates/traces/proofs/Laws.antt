@@ -1,4 +1,4 @@
--- What the proofs of this crate and of those above it cite. Assumes nothing.
+-- Laws that the proofs of this crate and of those above it cite. Assumes nothing.
 use Prim.Native.Nat.{ℕ, zero, suc, _+_, _-_, _≤_, _<_}
 use mathlib.Core.Path.{_≡_, refl, sym, ap, subst, _∙_}
 use mathlib.Core.Bool.{Bool, true, false, cond}
@@ -36,7 +36,7 @@ module _ (y : ℕ) where
   fits-outside (inr h) = fits-lower 229376 y (omega arith) ∙ rw (le-leb 196608 y (omega arith), le-ltb y 262144 h)
 
 module _ (tables : List (List Structure)) (order left place : ℕ) (last other : ℤ) (table : ℕ) (bs : List ℕ) where
-  -- a value was read, and y stands for its sample
+  -- a value was read, and y holds its sample
   module _ {v : ℤ} {next : ℕ} {rest : List ℕ} (read : gave v next rest ≡ readNext tables table bs) (y : ℕ)
       (e : fromZero 229376 y ≡ sampleOf order place v last other) where
     -- the rest goes on from it
@@ -95,7 +95,7 @@ module _ (tables : List (List Structure)) (order left j : ℕ) (last other : ℤ
 
 -- ---- how many samples there are
 
--- a trace of so many samples, or a fault
+-- a trace of n samples, or a fault
 abbrev Counted : ℕ → Trace → Type 0
 Counted n (rebuilt xs) = length xs ≡ n
 Counted n (fault number) = Unit {0}

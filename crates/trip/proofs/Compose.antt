@@ -1,4 +1,4 @@
--- What a job that the writer accepts says, and the streams found for its leads. Assumes nothing.
+-- The facts of a job that the writer accepts, and the streams found for its leads. Assumes nothing.
 use Prim.Native.Nat.{ℕ, zero, suc, _+_, _≤_, _<_}
 use mathlib.Core.Path.{_≡_, refl, ap}
 use mathlib.Core.Bool.{Bool, true, false, not, _||_, cond, and-eq-true-iff}
@@ -161,7 +161,7 @@ found-length s2 order streams (lead {found = some bs} {founds = founds} f all) h
     let c = streams-cons bs founds streams h in
     rw (c .split) (ap suc (found-length s2 order (c .others) all (c .rest)))
 
--- what stands in the record for lead k
+-- the record's stream for lead k
 pub record Lead (s2 : List ℕ) (order : ℕ) (xs : List ℤ) (stream : List ℕ) : Type 0 where
   pub bits : List ℕ
   pub reads : Stream (tablesGiven s2) (differences order xs) bits

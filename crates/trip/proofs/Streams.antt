@@ -94,7 +94,7 @@ module _ {s : List ℕ} {step interval order : ℕ} {streams : List (List ℕ)} 
   unfolding bytesOf
   streams-bimodal = stands-byte front-there 5 (omega arith)
 
-  -- what stands behind those numbers
+  -- the bytes behind those numbers
   rest-there : Stands s 22 (byteCountsOf streams ++ joined streams)
   unfolding streamsData bytesOf
   rest-there =

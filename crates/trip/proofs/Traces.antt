@@ -1,4 +1,4 @@
--- A packed stream for a lead's differences is rebuilt to its samples: fewer than eight bits stand behind it. Assumes nothing.
+-- A packed stream for a lead's differences is rebuilt to its samples: fewer than eight bits follow it. Assumes nothing.
 use Prim.Native.Nat.{ℕ, _+_, _-_, _*_, _<_}
 use mathlib.Core.Path.{_≡_, refl}
 use mathlib.Core.Bool.{true, and-eq-true-iff}

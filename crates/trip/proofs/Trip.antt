@@ -42,7 +42,7 @@ use Rattle.trip.proofs.Compose.{Right, job-right, given-right, length-c
 
 -- ---- fields
 
--- Section 1 stands in a record that opens
+-- Section 1 is placed in a record that opens
 module _ (r : List ℕ) (d : List ℕ) (opened : openRefusal r ≡ 0) (p : Placed r 1 d) (right : section1Right 0 d 0 ≡ true) where
   abbrev at : ℕ
   at = startOf r 1

@@ -1,4 +1,4 @@
--- What the proofs of this crate cite, and that a walk shows every field of Section 1. Assumes nothing.
+-- Laws that the proofs of this crate cite, and that a walk shows every field of Section 1. Assumes nothing.
 use Prim.Native.Nat.{ℕ, zero, suc, _+_, _-_, _%_, _≤_, _<_}
 use mathlib.Core.Path.{_≡_, refl}
 use mathlib.Core.Bool.{Bool, true, false, cond, and-eq-true-iff}

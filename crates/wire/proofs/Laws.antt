@@ -42,7 +42,7 @@ unfolding bytesOf
 length-bytesOf zero n = refl
 length-bytesOf (suc w) n = ap suc (length-bytesOf w (n / 256))
 
--- a number written in w bytes, whatever stands before and after it, is read back
+-- a number written in w bytes, whatever comes before and after it, is read back
 pub written-read : (w n : ℕ) (p q : List ℕ) → n < 256 ^ w → numberAt w (p ++ (bytesOf w n ++ q)) (length p) ≡ n
 unfolding numberAt bytesOf
 written-read zero n p q h = omega arith

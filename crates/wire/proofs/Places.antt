@@ -1,4 +1,4 @@
--- Parts that stand one behind another in a list of bytes, and what is read there. Assumes nothing.
+-- Parts that lie one behind another in a list of bytes, and what is read there. Assumes nothing.
 use Prim.Native.Nat.{ℕ, zero, suc, _+_, _-_, _≤_, _<_, _^_}
 use mathlib.Core.Path.{_≡_, refl, sym, ap, _∙_}
 use mathlib.Core.Bool.{Bool, true, and-eq-true-iff}
@@ -13,7 +13,7 @@ use Rattle.wire.specs.Numbers.{byteAt, numberAt, bytesOf, part}
 use Rattle.wire.specs.RuleWords.{each, endsBy}
 use Rattle.wire.proofs.Laws.{written-read}
 
--- a part stands in r from a place on
+-- a part lies in r from a place on
 pub record Stands (r : List ℕ) (start : ℕ) (x : List ℕ) : Type 0 where
   pub front : List ℕ
   pub rest : List ℕ
@@ -46,7 +46,7 @@ module _ {r : List ℕ} {start : ℕ} {x : List ℕ} (s : Stands r start x) wher
       let e = ap length (s .split) in
       omega (arith, s .place, length-append (s .front) (x ++ s .rest), length-append x (s .rest))
 
-  -- a part of it stands further on
+  -- a part of it lies further on
   pub stands-inner : {a : ℕ} {y : List ℕ} → Stands x a y → Stands r (start + a) y
   stands-inner {a} {y} t = record {
     front = s .front ++ t .front;

@@ -1,4 +1,4 @@
--- What a test in the code says of a rule: for proofs of functions that ask a rule part by part. Assumes nothing.
+-- The meaning of a test in the code for a rule: for proofs of functions that ask a rule part by part. Assumes nothing.
 use Prim.Native.Nat.{ℕ, _+_, _≤_, _<_}
 use mathlib.Core.Path.{_≡_, sym, _∙_}
 use mathlib.Core.Bool.{Bool, true, false, not}

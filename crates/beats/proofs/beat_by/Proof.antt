@@ -1,4 +1,4 @@
--- No zone is left, or the sample stands before the next one, or in it: then its rule keeps the place within the beat.
+-- No zone is left, or the sample lies before the next one, or in it: then its rule keeps the place within the beat.
 use Prim.Native.Nat.{_+_, _-_, _≤_, _<_}
 use mathlib.Core.Path.{_≡_, _∙_}
 use native.Mathlib.Omega.{arith}
@@ -46,7 +46,7 @@ zone-fiducial-requires c κs =
     let p = c .before .before .before .before .before in
     omega (arith, beat-right (length (p .args .beat .now)) (p .args .s .now) (p .pre .0) .few)
 
--- the sample stands in zone k, which keeps its rule
+-- the sample lies in zone k, which keeps its rule
 abbrev At : tie.After-zone-fiducial → Type 0
 At c =
     let a = c .before .before .before .before .before .before .args in

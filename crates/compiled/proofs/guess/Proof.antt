@@ -1,4 +1,4 @@
--- What stands at a place of the table's row stands there in the whole.
+-- A number at a place of the table's row is the same number in the whole.
 use mathlib.Core.Path.{_∙_}
 use Prim.Native.Nat.{_+_, _-_, _*_, _/_, _^_}
 use native.Mathlib.Omega.{arith}

@@ -1,4 +1,4 @@
--- Only the guesses are written, which stand behind the numbers of the tables.
+-- Only the guesses are written, which are behind the numbers of the tables.
 use Prim.Native.Nat.{ℕ, _+_, _-_, _≤_, _<_}
 use mathlib.Core.Path.{_≡_, refl, _∙_}
 use native.Mathlib.Omega.{arith}

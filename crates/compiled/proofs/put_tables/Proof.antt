@@ -35,7 +35,7 @@ add-put-table c = omega arith
 number16-requires : tie.Need-number16-requires Inv-loop μ-loop
 number16-requires c κs = tt
 
--- the table at the place that the loop has come to is the next
+-- the table at the place that the loop has reached is the next
 next : (c : tie.In-loop Inv-loop μ-loop) →
     let a = c .before .before .before .before .args in
     let l = c .before .loop in

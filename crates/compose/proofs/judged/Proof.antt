@@ -1,4 +1,4 @@
--- The first of 15, 16 and 11 that applies stands, with nothing else.
+-- The answer is the first of 15, 16 and 11 that applies, with nothing else.
 use Prim.Native.Nat.{ℕ}
 use mathlib.Core.Path.{_∙_}
 use borrow.Author.Needs.{needs}

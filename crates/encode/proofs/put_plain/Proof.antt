@@ -1,4 +1,4 @@
--- The bytes of the values before i stand at the front.
+-- The bytes of the values before i are at the front.
 use Prim.Native.Nat.{_-_, _*_, _≤_}
 use mathlib.Core.Path.{_≡_, refl, _∙_}
 use mathlib.Core.List.{_++_}

@@ -22,7 +22,7 @@ abbrev μ-loop : tie.MeasureT-loop
 more : (c : tie.In-loop Inv-loop μ-loop) → 0 < c .before .loop .left
 more c = omega arith
 
--- the sample and the table that the walk has come to
+-- the sample and the table that the walk has reached
 sample : (c : tie.In-loop Inv-loop μ-loop) → let a = c .before .before .before .before .before .before .args in
     c .before .loop .i < length (a .xs .now)
 sample c =
@@ -43,7 +43,7 @@ room c =
     place-room (l .i) (d .args .from .t) (d .args .n) (length (d .args .xs .now)) (length (d .args .work .now))
     (sample c) (table c .0) (table c .1) (d .pre .0 .1)
 
--- the structure that stands there
+-- the structure that is there
 fine : (c : tie.After-form-at Inv-loop μ-loop) → FineForm (c .form-at .result)
 fine c =
     let d = c .before .before .before .before .before .before .before .before in

@@ -1,4 +1,4 @@
--- What is found decides.
+-- The stream found decides.
 use Prim.Native.Nat.{_≤_, _<_}
 use mathlib.Core.Path.{sym, _∙_}
 use native.Mathlib.Omega.{arith}

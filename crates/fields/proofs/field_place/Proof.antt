@@ -1,4 +1,4 @@
--- A refused record gives its number; of an opened one the field that is found in Section 1 stands as far on as the section starts.
+-- A refused record gives its number; in an opened one the field found in Section 1 lies as far on as the section starts.
 use mathlib.Core.Path.{_≡_, sym, ap, _∙_}
 use native.Mathlib.Omega.{arith}
 use Prim.Native.Nat.{ℕ, _+_, _-_, _≤_}

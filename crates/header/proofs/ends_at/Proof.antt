@@ -1,4 +1,4 @@
--- The tests are those of the definition, in its order; past the end of the list a byte counts as 0, so no end mark stands there.
+-- The tests are those of the definition, in its order; past the end of the list a byte counts as 0, so no end mark is there.
 use mathlib.Core.Path.{_≡_, sym}
 use mathlib.Core.Bool.{_&&_}
 use Prim.Native.Nat.{_+_}
@@ -42,7 +42,7 @@ returns-3 c =
       ne-eqb _ _ (c .if3 .taken),
     )
 
--- where the mark stands, the lengths decide
+-- where the mark is there, the lengths decide
 marked : (c : tie.Else3) → let a = c .before .before .before .before .before .before .args in
     endsAt (a .spare) (a .s .now) (a .at) ≡ (leb (a .at + 3) (length (a .s .now)) && leb (length (a .s .now)) (a .at + 3 + a .spare))
 unfolding endsAt endsBy

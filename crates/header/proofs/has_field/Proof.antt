@@ -1,4 +1,4 @@
--- A field of any size keeps the rule, so the answer is whether the tag stands once.
+-- A field of any size keeps the rule, so the answer is whether the tag occurs once.
 use mathlib.Core.Path.{sym}
 use borrow.Author.Needs.{needs}
 use Rattle.header.proofs.has_field.Statement.{statement}

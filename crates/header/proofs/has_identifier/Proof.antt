@@ -1,4 +1,4 @@
--- Where the tag stands once, the call answers by the rule of an identifier; elsewhere the definition says false too.
+-- Where the tag occurs once, the call answers by the rule of an identifier; elsewhere the definition says false too.
 use mathlib.Core.Path.{sym}
 use borrow.Author.Needs.{needs}
 use Rattle.header.proofs.has_identifier.Statement.{statement}

@@ -1,4 +1,4 @@
--- Where too few bytes stand, or the tag is 255, the definition shows none either; where all tests are passed, the field is put
+-- Where there are too few bytes, or the tag is 255, the definition shows none either; where all tests are passed, the field is put
 -- together as the definition has it.
 use mathlib.Core.Path.{sym}
 use Prim.Native.Nat.{_+_}

@@ -1,4 +1,4 @@
--- The smallest of 1 to 10 stands, with nothing else; where none applies the lead is there.
+-- The answer is the smallest of 1 to 10 that applies, with nothing else; where none applies the lead is there.
 use Prim.Native.Nat.{ℕ, _-_}
 use mathlib.Core.Path.{_≡_, sym, ap, _∙_}
 use native.Mathlib.Omega.{arith}

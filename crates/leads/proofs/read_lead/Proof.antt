@@ -1,4 +1,4 @@
--- The smallest of 1 to 11 stands, with nothing else; then what was read decides.
+-- The answer is the smallest of 1 to 11 that applies, with nothing else; where none applies, the trace that was read decides.
 use Prim.Native.Nat.{_-_, _≤_}
 use mathlib.Core.Path.{_≡_, sym, ap, _∙_}
 use native.Mathlib.Omega.{arith}
@@ -22,7 +22,7 @@ here c =
     let a = c .before .before .before .args in
     readable (a .rec .now) (a .place) (length (a .out .now)) (length (a .work .now)) (sym (c .before .read-refusal .ensures) ∙ c .if1 .left)
 
--- so that reading comes to the trace of the lead
+-- so that the trace of the lead is the result of reading
 read : (c : tie.Else1) → let a = c .before .before .before .args in
     readTrace (a .rec .now) (a .place) (length (a .out .now)) (length (a .work .now)) ≡ traceAt (a .rec .now) (a .place - 1)
 read c =

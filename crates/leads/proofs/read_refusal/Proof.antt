@@ -1,4 +1,4 @@
--- The smallest of 1 to 10 stands; where none applies the room is asked.
+-- The answer is the smallest of 1 to 10 that applies; where none applies the room decides.
 use mathlib.Core.Path.{refl, _∙_, sym}
 use borrow.Author.Needs.{needs}
 use Rattle.wire.proofs.Tests.{kept, broken, same, differ}

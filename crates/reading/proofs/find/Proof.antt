@@ -1,4 +1,5 @@
--- What the first bits point to is tested before it is taken; where the test holds, no other structure of a right table matches.
+-- The structure that the first bits point to is tested before it is taken; where it passes, no other structure of a right table
+-- matches.
 use Prim.Native.Nat.{ℕ, _*_, _%_, _<_}
 use mathlib.Core.Path.{_≡_, sym, ap, _∙_}
 use mathlib.Core.List.{List, []}

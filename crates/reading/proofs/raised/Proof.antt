@@ -1,4 +1,4 @@
--- The lower half of the numbers stands above 131,072, the upper half below it, as two's complement has them above and below 0.
+-- The lower half of the numbers goes above 131,072, the upper half below it, as two's complement has them above and below 0.
 use Prim.Native.Nat.{ℕ, _+_, _-_, _*_}
 use mathlib.Core.Path.{ap, _∙_}
 use native.Mathlib.Omega.{arith}

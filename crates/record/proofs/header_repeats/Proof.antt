@@ -1,4 +1,4 @@
--- The tests are the rule's two parts, in its order, on the numbers that stand behind the section's start.
+-- The tests are the rule's two parts, in its order, on the numbers behind the section's start.
 use Prim.Native.Nat.{ℕ, _+_}
 use mathlib.Core.Path.{_≡_, ap, _∙_}
 use mathlib.Core.Bool.{and-false}
@@ -10,7 +10,7 @@ use Rattle.wire.proofs.Tests.{same, differ}
 use Rattle.record.proofs.header_repeats.Statement.{statement}
 use Rattle.record.proofs.header_repeats.Tie as tie
 
--- the ID and the length that stand behind the section's start
+-- the ID and the length behind the section's start
 id-found : (c : tie.After-number16) →
     let a = c .before .before .before .args in
     c .number16 .result ≡ numberAt 2 (a .rec .now) (startOf (a .rec .now) (a .k) + 2)

@@ -1,4 +1,4 @@
--- The number at the start is compared with the check of the part that stands behind it, up to the end.
+-- The number at the start is compared with the check of the part behind it, up to the end.
 use Prim.Native.Nat.{_+_}
 use mathlib.Core.Path.{_≡_, ap, _∙_}
 use borrow.Author.Needs.{needs}

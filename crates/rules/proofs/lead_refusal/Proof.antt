@@ -1,4 +1,4 @@
--- Opening is asked first, and its number stands; then the rules are asked in their order, and where all are kept the answer is 0.
+-- Opening is asked first, and its refusal is the answer; then the rules are asked in their order; where all are kept the answer is 0.
 use Prim.Native.Nat.{ℕ}
 use mathlib.Core.Path.{_≡_}
 use mathlib.Core.List.{List}

@@ -1,4 +1,4 @@
--- The casts and the difference come to the sample.
+-- The casts and the difference give the sample.
 use mathlib.Core.Path.{ap, _∙_}
 use borrow.Author.Needs.{needs}
 use lib.IntN.{ℤ}

@@ -1,4 +1,4 @@
--- The casts and the sum come to the number that holds the sample.
+-- The casts and the sum give the number that holds the sample.
 use mathlib.Core.Path.{ap}
 use native.Mathlib.Omega.{arith}
 use lib.IntN.{natAbs}

@@ -1,4 +1,4 @@
--- The number of a table's structures is read where it stands; there are at most 64.
+-- The number of a table's structures is read at its place; there are at most 64.
 use Prim.Native.Nat.{_-_, _*_}
 use mathlib.Core.Path.{refl}
 use native.Mathlib.Omega.{arith}

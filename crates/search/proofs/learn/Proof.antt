@@ -1,4 +1,4 @@
--- What was looked for is known from then on.
+-- The structure that was found for a value, or none, is known from then on.
 use native.Mathlib.Omega.{arith}
 use Rattle.search.proofs.Laws.{place-most}
 use Rattle.search.proofs.Served.{known-more}

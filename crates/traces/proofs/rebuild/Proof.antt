@@ -1,4 +1,4 @@
--- What the stream is rebuilt to is the samples that stand in the room, before what is rebuilt from the cursor on.
+-- The stream is rebuilt to the samples that are in the room, before what is rebuilt from the cursor on.
 use Prim.Native.Nat.{suc, _+_, _-_, _*_, _≤_, _<_}
 use mathlib.Core.Path.{_≡_, refl, sym, subst, _∙_}
 use mathlib.Core.List.{List}

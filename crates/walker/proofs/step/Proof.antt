@@ -103,7 +103,7 @@ module _ {M : Type 1} (𝓤 : URA M) (H : Heap 𝓤) (A : Atoms 𝓤) (W : Given
       qed W ((‵ (flft κ q) ⊛ ‵ ftrue) ∷ ‵ (owns (R κ ∷ usize ∷ []) (d .section, (d .at, tt)) (passed d)) ∷ []) ∵
       join ! $ frame ! $ done !
 
-  -- what stands at the place, and what each callee says of it
+  -- the step at the place, and what each callee says of it
   abbrev found : Step
   found = stepAt (now (d .section)) (d .at)
 

@@ -1,4 +1,4 @@
--- Where the end comes before the start, or the start past the end of `s`, nothing stands between them; where `s` ends first, taking
+-- Where the end comes before the start, or the start past the end of `s`, there is nothing between them; where `s` ends first, taking
 -- all that is left is taking that many bytes or more.
 use mathlib.Core.Path.{_≡_, sym, _∙_}
 use Prim.Native.Nat.{_-_}

@@ -1,4 +1,4 @@
--- The bytes written stand first in what all bits are packed into; the bits that are left are moved up in the last byte (`end-part`).
+-- The bytes written come first in what all bits are packed into; the bits that are left are moved up in the last byte (`end-part`).
 use Prim.Native.Nat.{_-_, _*_, _^_}
 use mathlib.Core.Path.{_≡_}
 use native.Mathlib.Omega.{arith}

@@ -1,4 +1,4 @@
--- What is left to be read at the cursor is what was to be read at first; a burst that did not end is further on, within the bits.
+-- Reading on from the cursor gives what reading gave at first; a burst that did not end is further on, within the bits.
 use Prim.Native.Nat.{_-_, _*_, _≤_, _<_}
 use mathlib.Core.Path.{_≡_, refl, sym, ap, subst, _∙_}
 use mathlib.Core.List.{List}

@@ -19,7 +19,7 @@ use Rattle.reading.proofs.Cursor.plain.Tie as tie
 byte : (l : List ℕ) → Small l → 8 ≤ length l → numberOf (take 8 l) < 256
 byte l small h = rw (length-take-le 8 l h) at (number-small (take 8 l) (small-take 8 l small))
 
--- the two bytes that stand at the cursor
+-- the two bytes at the cursor
 bytes : (c : tie.After-after) →
     let a = c .before .before .before .before .before .args in
     let l = drop (a .self .at) (bitsIn (a .s .now)) in
