@@ -80,7 +80,7 @@ abbrev pub rowsField : List ℕ → ℕ → ℕ → List (ℕ × Bool)
 rowsField r tag k =
     rowsOpened r ++ ((10, foundKeeps anyField (occurring k (withTag tag (fieldsFrom (sectionOf r 1) dataAt)))) ∷ [])
 
--- rows 1 to 10, asked of the lead at a place; and 1 to 11, with so much room and work space lent
+-- rows 1 to 10, asked of the lead at a place; and 1 to 11, where this much room and work space are lent
 abbrev pub rowsLead : List ℕ → ℕ → List (ℕ × Bool)
 rowsLead r place =
     rowsOpened r ++ ((7, tablesRight r) ∷ (8, sections3To6Right r) ∷ (9, agrees r) ∷ (10, hasLead r place) ∷ [])

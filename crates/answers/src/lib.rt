@@ -1,5 +1,5 @@
 // The auditor's theorems: specs/ states them and has the table of examples, proofs/ shows them. The two functions here change nothing and
-// answer nothing. What they ensure is what two theorems ask of samples and of a job: every call meets it, by the types of what it lends.
+// answer nothing. They ensure what two theorems ask of samples and of a job: every call meets it, by the types of what it lends.
 ghost use mathlib.Core.Path.{_≡_};
 ghost use mathlib.Core.Bool.{true};
 ghost use Rattle.wire.specs.RuleWords.{every};

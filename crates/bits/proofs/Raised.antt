@@ -38,7 +38,7 @@ lower-one much x y e = go (fromZero much y) (rw e at (held much x)) (held much y
     go (pos n) h g = omega arith
     go (negsuc n) h g = omega arith
 
--- how large what is held is: within so much, and not
+-- how large the number that is held is: within a bound, and not
 pub mag-inside : (much x b : ℕ) → much ≤ x + b → x < much + b → mag (fromZero much x) < b
 mag-inside much x b h g = go (fromZero much x) (held much x)
   where

@@ -1,4 +1,4 @@
--- Whole numbers held without a sign, so much added that none is below 0. No public contract rests on this.
+-- Whole numbers held without a sign, with a number added so that none is below 0. No public contract rests on this.
 use Prim.Native.Nat.{ℕ, suc, _-_}
 use mathlib.Core.Bool.{cond}
 use lib.IntN.{ℤ, pos, negsuc}

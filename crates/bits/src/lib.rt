@@ -29,8 +29,8 @@ fn word(s: &[u8], i: usize) -> u64
         + wide(s[i]) * 72057594037927936
 }
 
-// The same near the end of the bytes, zeros standing for those that are not there. The loop is over those that are there, so that the
-// compiler cannot write it out, and finds the window small enough to put into its callers.
+// The same near the end of the bytes, with zeros in place of those that are not there. The loop is over those that are there, so that
+// the compiler cannot write it out, and finds the window small enough to put into its callers.
 fn last_word(s: &[u8], i: usize) -> u64
     requires { ⌜ (i ≤ length (now s)) × (length (now s) < i + 8) ⌝ }
     ensures { λ r. ⌜ r ≡ numberOf (take 64 (drop (i * 8) (bitsIn (now (s .entry) ++ replicate 8 0)))) ⌝ }

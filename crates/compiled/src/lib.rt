@@ -190,8 +190,8 @@ fn put_all(s: &[u8], at: usize, spare: usize, tab: &mut [u32])
     put_none(tab, n);
 }
 
-// Structure k of table t is what to try first wherever its prefix begins the first eight bits, unless it is longer than these. What is
-// put is its place, and 64 times its prefix's length.
+// Structure k of table t is what to try first wherever its prefix begins the first eight bits, unless it is longer than these. The
+// number put is its place, and 64 times its prefix's length.
 fn put_guess(tab: &mut [u32], t: usize, k: usize)
     requires { ⌜ (length (now tab) ≡ roomNumbers) × (t < 8) × (k < 64) ⌝ }
     ensures { λ _. ⌜ SameTables (now (tab .entry)) (now (tab .exit)) ⌝ }

@@ -8,7 +8,7 @@ use lib.ListN.{length, replicate}
 use Rattle.rules.specs.LeadRules.{tablesRight, leadCountOf, beatSubtracted, beatSampleCount, beatRight}
 use Rattle.leads.specs.LeadTrace.{sampleCountAt}
 
--- lead k can be read with so much work space: its tables and its beat were judged, and it is there
+-- lead k can be read with `work` elements of work space: its tables and its beat were judged, and it is there
 pub record Readable (r : List ℕ) (k work : ℕ) : Type 0 where
   pub tables : tablesRight r ≡ true
   pub beat : beatRight r ≡ true

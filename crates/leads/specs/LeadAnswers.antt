@@ -29,7 +29,7 @@ leadOf r k (rebuilt xs) = record {
 }
 leadOf r k (fault number) = record { refusal = number; id = 0; flags = 0; step = 0; interval = 0; first = 0; count = 0 }
 
--- reading the lead at a place, with so much room and work space lent
+-- reading the lead at a place, where this much room and work space are lent
 abbrev pub leadAnswer : List ℕ → ℕ → ℕ → ℕ → Lead
 leadAnswer r place room work = leadOf r (place - 1) (readTrace r place room work)
 

@@ -1,4 +1,4 @@
--- The C boundary's answers as numbers, where the library's call answers by cases (01, The forms we expect, on answers as enums).
+-- The C boundary answers in numbers where the library's call answers by cases (01, The forms we expect, on answers that are enums).
 use Prim.Native.Nat.{ℕ}
 use mathlib.Core.Bool.{Bool, true, false}
 use Rattle.header.specs.declared.Field.{Field}

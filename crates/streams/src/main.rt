@@ -1,4 +1,4 @@
-// Reads the published streams by the library and writes the result of each, a line each: the values, or how many where they are more
+// Reads the published streams by the library and writes each result on a line of its own: the values, or how many where they are more
 // than 100, 12 where reading is stuck, and behind a bar the bits that the values took; or 7 where Section 2 is not right. The last two
 // lines are of the longest lead, 65,535 bytes: all switches, and all codes of one bit.
 ghost use Prim.Native.Nat.{_≤_};

@@ -1,6 +1,5 @@
 // A walk over the header fields of a record (01, Header fields and the patient identifier; 01, The forms we expect): a small struct
-// that holds Section 1 as a part of the lent record itself, and a place in it. A step shows what is there; the next walker is behind
-// it.
+// that holds Section 1 as a part of the lent record itself, and a place in it. A step shows what is there; the next walker is past it.
 ghost use mathlib.Core.Path.{_≡_};
 ghost use Prim.Native.Nat.{_+_};
 ghost use Rattle.header.specs.Fields.{stepAt, shownBytes};
