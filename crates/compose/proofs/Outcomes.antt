@@ -1,4 +1,4 @@
--- The streams found decide: the refusals behind the search and the answer. Assumes nothing.
+-- The result of the search decides: the refusals behind the search and the answer. Assumes nothing.
 use Prim.Native.Nat.{ℕ, zero, suc, _<_, _≤_, min}
 use mathlib.Core.Path.{_≡_, refl, sym, ap, ap₂, _∙_, subst}
 use mathlib.Core.Bool.{Bool, true, false, _&&_, cond}

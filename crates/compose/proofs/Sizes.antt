@@ -1,4 +1,4 @@
--- The streams found for the leads, one by one from the last back, and what they say of all. Assumes nothing.
+-- The results of the search for the leads, one by one from the last back, and what they say of all. Assumes nothing.
 use Prim.Native.Nat.{ℕ, zero, suc, _+_, _-_, _<_, _≤_}
 use mathlib.Core.Path.{_≡_, refl, ap, _∙_}
 use mathlib.Core.Bool.{Bool, true, false, cond}

@@ -1,4 +1,4 @@
--- The streams found decide: a refusal, or Section 6 in its place.
+-- The result of the search decides: a refusal, or Section 6 in its place.
 use Prim.Native.Nat.{ℕ, _+_, _-_, _≤_}
 use mathlib.Core.Path.{_≡_, refl, sym, _∙_, subst}
 use mathlib.Core.List.{List}

@@ -1,4 +1,4 @@
--- The answer is the first of 17, 6, 7 and 11 for the work space, with nothing else; where none applies, the streams found decide.
+-- The answer is the first of 17, 6, 7 and 11 for the work space, with nothing else; where none applies, the search's result decides.
 use Prim.Native.Nat.{_≤_}
 use mathlib.Core.Path.{_≡_, sym, _∙_}
 use native.Mathlib.Omega.{arith}

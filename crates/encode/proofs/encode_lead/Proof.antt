@@ -1,4 +1,4 @@
--- The answer is the first of 17, 7 and 11 for the work space, with nothing else; where none applies, the stream found decides.
+-- The answer is the first of 17, 7 and 11 for the work space, with nothing else; where none applies, the search's result decides.
 use Prim.Native.Nat.{_*_, _≤_}
 use mathlib.Core.Path.{_≡_, sym, _∙_}
 use mathlib.Core.Bool.{true}

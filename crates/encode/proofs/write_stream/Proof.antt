@@ -1,4 +1,4 @@
--- The stream found decides.
+-- The result of the search decides.
 use Prim.Native.Nat.{_≤_, _<_}
 use mathlib.Core.Path.{sym, _∙_}
 use native.Mathlib.Omega.{arith}
