@@ -56,7 +56,7 @@ pub fn section_2(record: &[u8]) -> Vec<Finding> {
     judged.and_then(Result::err).unwrap_or_default()
 }
 
-/// The tables that these data give, if they keep the rules and end in at most this many spare bytes.
+/// The tables that these data give, if they keep the rules and have at most this many spare bytes.
 pub fn tables(mut data: Bytes, most_spare: usize) -> Result<Tables, Vec<Finding>> {
     let mut found = Findings::new(row::SECTION_2, Some(2));
     let tables = all(&mut data, &mut found);

@@ -1,4 +1,4 @@
-//! The C interface as it is, call for call: `rust/include/scp.h` in Rust's words, which says what each call answers. The
+//! The C interface as it is, call for call: `rust/include/scp.h` in Rust's words. The header says what each call answers. The
 //! calls that room is lent to are here on slices too, with the same answers.
 
 use crate::Job;

@@ -24,7 +24,7 @@ fn broken(shown: &Value) -> Vec<(u64, bool)> {
         .collect()
 }
 
-/// A record that check accepts keeps every rule. One that it refuses breaks that refusal's rule first, or a lead is refused.
+/// An accepted record keeps every rule; a refused one breaks the refusal's rule first, or some lead is refused with it.
 #[test]
 fn a_report_agrees_with_check() {
     for entry in samples().read_dir().unwrap() {
