@@ -176,7 +176,7 @@ fn seven_bits(number: i16) -> String {
     format!("1{number:06b}")
 }
 
-/// 65,536 values, all 0 but for a switch or a value other than 0 in each turn of `every`, one of a pair that cancels out.
+/// 65,536 values, all 0 but for a switch or a pair of other values that cancels out, once in twice `every` values.
 fn mixed(every: usize) -> String {
     let mut letters = String::new();
     for n in 0..65_536 {

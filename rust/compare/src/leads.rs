@@ -110,7 +110,7 @@ fn entry(
 }
 
 /// Reads a lead with an output that is just enough or longer, and work space that is just enough; where there is no lead,
-/// with any lengths. A refusal of the entry refuses the reading.
+/// with any lengths. If the entry is refused, the reading is refused alike.
 fn read_once(
     record: &[u8],
     place: usize,

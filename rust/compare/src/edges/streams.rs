@@ -18,7 +18,7 @@ pub fn add(edges: &mut Edges) {
     order_of_faults(edges);
 }
 
-/// A lead of `count` samples by a Section 2, none being empty, with this stream; the second lead stays sound or not.
+/// A lead of `count` samples by this Section 2, empty if there is none, with this stream; the second lead stays sound or not.
 fn lead(tables: &[u8], order: u8, count: u32, stream: Vec<u8>) -> Rhythm {
     let mut rhythm = two_leads();
     rhythm.tables = tables.to_vec();
