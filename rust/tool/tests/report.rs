@@ -232,7 +232,7 @@ fn a_file_that_is_no_record_is_said_to_be_none() {
     assert!(found.starts_with("the CRC stored"), "{found}");
 }
 
-/// A file that is too long is not read whole, and is asked for no more than its length.
+/// A file that is too long is not read whole, and only the rule on its length is asked.
 #[test]
 fn a_long_file_is_asked_for_its_length() {
     let folder = Folder::new("long-report");

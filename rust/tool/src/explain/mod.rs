@@ -69,7 +69,7 @@ pub fn found_in_job(making: &Making, refusal: Refusal) -> Vec<String> {
     explained(refusal, &found, Subject::Job(making))
 }
 
-/// The findings in a record that breaks a refusal's rule, asked alone; there may be none.
+/// The findings in a record for a refusal's rule, asked alone; there may be none.
 pub fn seen(looked: &Looked, refusal: Refusal) -> Vec<String> {
     let found = judge::findings(looked.record, refusal.number());
     lines(&found, Subject::Record(looked.size))
