@@ -1,4 +1,4 @@
-# What ./test and ./tigmavresh share: the packages they need, and how cargo, the C compiler and what these make are called.
+# Shared by ./test and ./tigmavresh: the packages they need, and how cargo, the C compiler and what these make are called.
 # To be sourced by sh, with $top set to the repository's folder. It has variables and functions; until one of those is called
 # nothing happens.
 #
@@ -11,7 +11,7 @@ build=$top/rust/target
 logs=$build/log
 archive=$top/target/staticlib/libscp.a
 
-# What is linked is what was proved here.
+# Only the archive that was proved here is linked.
 unset SCP_ARCHIVE_DIR
 
 say() { printf '%s: %s\n' "${0##*/}" "$*" >&2; }

@@ -1,4 +1,4 @@
-"""What the tests share: the folders, the sample records, the tool, and records with their checks put right."""
+"""Shared by the tests: the folders, the sample records, the tool, and records with their CRCs put right."""
 
 from __future__ import annotations
 
@@ -21,7 +21,7 @@ def sample(name: str) -> bytes:
 
 
 def tool(*words: object) -> str:
-    """What the tool writes for a call that succeeds."""
+    """The output of the tool for a call that succeeds."""
     call = [str(TOP / "tigmavresh"), *map(str, words)]
     return subprocess.run(call, check=True, stdout=subprocess.PIPE, text=True).stdout
 

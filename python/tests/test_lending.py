@@ -1,4 +1,4 @@
-"""What can be given: bytes of every kind, never changed; numbers that fit; nothing else."""
+"""Arguments that can be given: bytes of every kind, never changed; numbers that fit; nothing else."""
 
 from __future__ import annotations
 

@@ -1,4 +1,4 @@
-"""What the module is made by, and what it says of itself."""
+"""How the module is made, and what it says of itself."""
 
 from __future__ import annotations
 

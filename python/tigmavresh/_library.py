@@ -69,7 +69,7 @@ class ScpWritten(ctypes.Structure):
 # Lent memory: its address, and how many elements there are.
 LENT = [c_void_p, c_size_t]
 
-# What each function answers, and what it is given.
+# The answer of each function, and its arguments.
 PROTOTYPES = {
     "scp_crc": (c_uint16, LENT),
     "scp_open": (ScpOpened, LENT + [c_void_p]),

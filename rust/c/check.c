@@ -2,7 +2,7 @@
  * check.c: the library as a C program sees it. Calls every function of scp.h on a small record and on damaged ones, and
  * looks at each answer and at the memory around it, so that header and archive cannot part.
  *
- * What is right is written in these files by hand from the rules; the checks of the records are made by a loop of this
+ * The right answers are written in these files by hand from the rules; the CRCs of the records are made by a loop of this
  * file's own. Leads are read from files of samples/, whose folder is named on the command line.
  */
 #include "check.h"

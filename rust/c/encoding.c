@@ -35,7 +35,7 @@ static int output_holds(const uint8_t *bytes, size_t count) {
 
 static const uint8_t no_bytes[CODE_ROOM];
 
-/* What is lent to be encoded, and how much room. */
+/* The data lent to be encoded, and how much room. */
 typedef struct {
     const uint8_t *section2;
     size_t n2;

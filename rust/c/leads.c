@@ -47,7 +47,7 @@ static int room_holds(const int16_t *at, const int16_t *numbers, size_t count) {
 
 static const int16_t zeros[LEAD_ROOM];
 
-/* Asks for a lead that is refused: nothing is shown, and of the work space so many elements are zeros. */
+/* Asks for a lead that is refused: nothing is shown, and `cleared` elements of the work space are zeros. */
 static void lead_refused(uint8_t number, size_t place, size_t out_n, size_t work_n, size_t cleared) {
     ScpLead lead = read_guarded(place, out_n, work_n);
     EXPECT(lead.refusal == number);
@@ -72,7 +72,7 @@ static void lead_is(size_t place, size_t out_n, size_t work_n, size_t cleared, u
     EXPECT(room_holds(work, zeros, cleared));
 }
 
-/* What a record says of a lead; all is 0 if it is refused. */
+/* Checks what a record says of a lead; all is 0 if it is refused. */
 static void entry_is(size_t place, ScpEntry right) {
     ScpEntry entry = scp_lead(file, file_size, place);
     EXPECT(entry.refusal == right.refusal);

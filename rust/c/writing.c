@@ -12,7 +12,7 @@ static const uint32_t write_firsts[] = {1, 41}, write_counts[] = {7, 2};
 static const uint8_t write_ids[] = {1, 62};
 static const int16_t write_samples[] = {14, 18, 22, 22, 13, 3, -2, -5, 7};
 
-/* What is lent to be written, and how much room. */
+/* The data lent to be written, and how much room. */
 typedef struct {
     size_t n1, n2, nf, nc, ni, ns;
     uint16_t step, interval;
@@ -45,7 +45,7 @@ static void write_refused(Writing asked, uint8_t refusal, size_t cleared) {
     EXPECT(work_is_cleared(cleared));
 }
 
-/* What was written opens, shows its fields and is read back. */
+/* Checks that the record just written opens, shows its fields and is read back. */
 static void written_is_read(uint32_t bytes, uint32_t section_6) {
     const uint8_t *at = record_out + GUARDS;
     EXPECT(check_of(at + 2, bytes - 2) == (at[0] | at[1] << 8));

@@ -5,7 +5,7 @@
  * The library allocates nothing, keeps nothing between calls, does no input or output, and needs under 256 KiB of stack
  * a call.
  *
- * What holds for every call:
+ * These rules hold for every call:
  *   - Lent bytes are a pointer and a length. A call reads and writes nothing outside them. A part that a call writes to must
  *     not overlap any other part lent to the same call.
  *   - Any bytes and any numbers may be given, and every call ends.
@@ -69,7 +69,7 @@ enum {
 /* The most bytes that a record has: so much room for one is always enough. */
 #define SCP_RECORD_MAX 1048576
 
-/* What opening a record answers. */
+/* The answer to opening a record. */
 typedef struct {
     uint8_t refusal;
     uint32_t count; /* how many pointers Section 0 has */
@@ -94,7 +94,7 @@ typedef struct {
     uint32_t first, count;      /* the number of the first sample, and how many there are */
 } ScpLead;
 
-/* What a record says of a lead, its stream unread. */
+/* A record's description of a lead, its stream unread. */
 typedef struct {
     uint8_t refusal, id, flags, order; /* the order is that of the differences stored in Section 6: 0, 1 or 2 */
     uint16_t step, interval;
@@ -190,12 +190,12 @@ ScpCoded scp_encode_lead(const uint8_t *section2, size_t n2, const int16_t *samp
  *
  * `section1` is Section 1's data up to its end mark, FF 00 00, and nothing after it; more is 6. `section2` is Section 2's
  * data with no spare byte; empty data mean that there is no Section 2; more is 7. Lead k has first sample number `firsts[k]`,
- * `counts[k]` samples and ID `ids[k]`: nf, nc and ni are equal, 1 to 32. The samples of all leads stand one after another in
+ * `counts[k]` samples and ID `ids[k]`: nf, nc and ni are equal, 1 to 32. The samples of all leads follow one another in
  * `samples`, ns of them. `order` is that of the differences stored; each lead's stream is the one of scp_encode_lead.
  *
- * The record has twelve pointers, those of absent sections with index 0; the sections stand by rising ID without gaps;
+ * The record has twelve pointers, those of absent sections with index 0; the sections follow by rising ID without gaps;
  * `version` is in both version bytes of each; Section 3 has `flags` with bit 0 cleared; bimodal, reserved and spare bytes are
- * 0; all checks are made. What is written, scp_open accepts, scp_field shows byte for byte, and scp_read_lead gives back
+ * 0; all CRCs are set. scp_open accepts what is written, scp_field shows it byte for byte, and scp_read_lead gives it back
  * sample for sample. The first `bytes` bytes of the output are changed and no others; none on refusal.
  *
  * Work space is needed where there is a Section 2: one byte for each sample of the longest lead times each table, tables that

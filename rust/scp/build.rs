@@ -1,6 +1,6 @@
 //! Links the proved archive, `libscp.a`.
 //!
-//! It stands in `target/staticlib` of the repository once `rt staticlib scp` has been run there. The environment
+//! It is in `target/staticlib` of the repository once `rt staticlib scp` has been run there. The environment
 //! variable `SCP_ARCHIVE_DIR` names another folder to take it from.
 
 use std::env;
@@ -34,7 +34,7 @@ fn archive_folder() -> PathBuf {
     }
 }
 
-/// The folder of this package: where it stands now, and not where this program was compiled.
+/// The folder of this package: where it is now, and not where this program was compiled.
 fn package_folder() -> PathBuf {
     PathBuf::from(env::var_os("CARGO_MANIFEST_DIR").expect("cargo names it"))
 }

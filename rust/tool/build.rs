@@ -11,7 +11,7 @@ use std::process::Command;
 const SOURCES: [&str; 2] = ["crates", "crates.txt"];
 
 fn main() {
-    // where the package stands now, and not where this program was compiled
+    // where the package is now, and not where this program was compiled
     let package = env::var_os("CARGO_MANIFEST_DIR").expect("cargo names it");
     let top = PathBuf::from(package).join("../..");
     watch(&top);
@@ -22,7 +22,7 @@ fn main() {
     println!("cargo:rustc-env=TIGMAVRESH_KIT={kit}");
 }
 
-/// Has this run again when the commit changes, the sources, or the archive that was made of them. What is not there is not
+/// Has this run again when the commit changes, the sources, or the archive that was made of them. A file that is missing is not
 /// watched, since that would be a change each time.
 fn watch(top: &Path) {
     println!("cargo:rerun-if-changed=build.rs");

@@ -1,7 +1,7 @@
 // Reads records by pixelmed, for scripts/peers/run: a file's name on each line of the input, an answer on each line of the output.
 //
 // All that is asked of pixelmed is what its own viewer asks: the constructor, and the decompressed rhythm data. An answer has
-// three parts with tabs between them: "read" or "refused"; the first exception that was thrown, or told of, since pixelmed
+// three parts with tabs between them: "read" or "refused"; the first exception that was thrown, or reported, since pixelmed
 // catches some and goes on; the samples of each lead, in JSON.
 
 import com.pixelmed.dicom.BinaryInputStream;

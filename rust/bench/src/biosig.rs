@@ -108,7 +108,7 @@ fn judge_leads(record: &[u8]) {
 /// of the record and of every section but Section 0, as a debugger shows at its check.
 struct Checks<'a> {
     crc: Crc,
-    /// What is checked, each with its check before it.
+    /// The parts that are checked, each with its CRC before it.
     parts: Vec<&'a [u8]>,
 }
 
@@ -139,7 +139,7 @@ impl<'a> Checks<'a> {
 
 // ---- its calls
 
-/// What biosig knows of a file; only biosig looks into it.
+/// The data that biosig keeps on a file; only biosig looks into it.
 type Header = *mut c_void;
 
 /// `RTLD_NOW` of Linux.
@@ -164,7 +164,7 @@ struct Biosig {
 impl Biosig {
     /// Looks for the library.
     fn find() -> Option<Biosig> {
-        // SAFETY: the name ends in 0. What biosig does when it is loaded is its own.
+        // SAFETY: the name ends in 0. Biosig alone answers for what it does when it is loaded.
         let library = unsafe { dlopen(c"libbiosig.so.3".as_ptr(), NOW) };
         if library.is_null() {
             return None;

@@ -1,7 +1,7 @@
 //! Measures the proved library beside the same work in plain Rust: `rust/bench/run`.
 //!
 //! Both sides of a line do their work in turns, in one process, and the medians of all rounds are shown with their ratio.
-//! What they answer is held to be the same before anything is measured. Nothing is asserted of the times.
+//! Both must give the same answers before anything is measured. Nothing is asserted of the times.
 
 mod biosig;
 mod encoding;

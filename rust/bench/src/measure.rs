@@ -5,7 +5,7 @@
 
 use std::ffi::{c_int, c_long};
 
-/// Work lasts at least so many seconds in a round, over and over if need be.
+/// The work of a round lasts at least this many seconds, over and over if need be.
 const ROUND: f64 = 0.002;
 /// Where all of a line takes more seconds than this for the work once, there are few rounds.
 const LONG: f64 = 0.2;
@@ -16,7 +16,7 @@ pub struct Table {
     rounds: usize,
 }
 
-/// What is looked at before and after the work.
+/// The clock that is read before and after the work.
 #[derive(Clone, Copy)]
 pub enum Clock {
     /// The time that the processor has spent on this thread, `CLOCK_THREAD_CPUTIME_ID` of Linux.

@@ -2,7 +2,7 @@
 
 use std::fmt::Debug;
 
-/// What differs: the call, and both answers.
+/// A difference: the call, and both answers.
 pub type Difference = String;
 
 /// 0, or the refusal.

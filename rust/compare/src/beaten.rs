@@ -49,7 +49,7 @@ pub fn beaten(rng: &mut Rng) -> Vec<u8> {
     draft.lay_out()
 }
 
-/// Streams of so many samples each, of up to this size, a millisecond apart.
+/// Streams with these counts of samples, each sample of up to this size, a millisecond apart.
 fn streams(tables: &[u8], size: usize, counts: &[usize], rng: &mut Rng) -> Stored {
     let order = if size > 8000 { 0 } else { rng.below(3) as u8 };
     let stream = |&count: &usize| {

@@ -8,14 +8,14 @@ pub const SECTION_0: usize = 6;
 pub const HEADER: usize = 16;
 /// The bytes of a pointer.
 const POINTER: usize = 10;
-/// What both version bytes of every section say: version 1.3.
+/// The version that both version bytes of every section hold: 1.3.
 pub const VERSION: u8 = 13;
 
 /// A record before it is laid out.
 pub struct Draft {
     /// The IDs of the pointers.
     pub ids: Vec<u16>,
-    /// All that stands after Section 0: sections by their ID, and gaps.
+    /// Everything after Section 0: sections by their ID, and gaps.
     parts: Vec<(Option<u16>, Vec<u8>)>,
 }
 
@@ -98,7 +98,7 @@ pub fn with_header(id: u16, data: &[u8]) -> Vec<u8> {
     section
 }
 
-/// Where the pointer with an ID stands.
+/// The offset of the pointer with an ID.
 pub fn pointer_to(record: &[u8], id: u16) -> usize {
     (SECTION_0 + HEADER..)
         .step_by(POINTER)

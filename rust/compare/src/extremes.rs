@@ -1,4 +1,4 @@
-//! Records at the ends of the rules: as long, as many and as deep as can be. What each is to get is written here from the
+//! Records at the ends of the rules: as long, as many and as deep as can be. The right answers are written here from the
 //! rules.
 
 use judge::make::{mend, mend_size};
@@ -12,7 +12,7 @@ use crate::rhythm::{
 
 /// A record, what it is, and what reading its first lead gives: 0 or a refusal.
 pub struct Extreme {
-    /// What it is.
+    /// A description in a few words.
     pub name: &'static str,
     /// The refusal, or 0.
     pub read: u8,
@@ -107,7 +107,7 @@ fn with(rhythm: &Rhythm) -> Vec<u8> {
     draft.lay_out()
 }
 
-/// So many leads of samples 1 to `last`, each with this stream.
+/// `number` leads of samples 1 to `last`, each with this stream.
 fn leads(number: u8, last: u32, tables: Vec<u8>, order: u8, stream: Vec<u8>) -> Rhythm {
     let span = |id| Span { first: 1, last, id };
     Rhythm {
@@ -176,7 +176,7 @@ fn seven_bits(number: i16) -> String {
     format!("1{number:06b}")
 }
 
-/// 65,536 values: 0, but every so many a switch or a value that is not, one of a pair that cancels out.
+/// 65,536 values, all 0 but for a switch or a pair of other values that cancels out, once in twice `every` values.
 fn mixed(every: usize) -> String {
     let mut letters = String::new();
     for n in 0..65_536 {
@@ -235,7 +235,7 @@ fn switches_through_all() -> Vec<u8> {
     with(&leads(1, 1, tables, 1, all_switches("10")))
 }
 
-/// Every value has a prefix of 32 bits and a remainder of 16, and stands last in its table.
+/// Every value has a prefix of 32 bits and a remainder of 16, and is last in its table.
 fn longest_codes() -> Vec<u8> {
     let prefix = |k: usize| format!("{k:032b}");
     let mut codes: Vec<Code> = (1..64).map(|k| value(prefix(k), k as i16)).collect();

@@ -11,18 +11,18 @@ use crate::lent::{Element, Space};
 /// Room that is always enough.
 pub const ROOM: usize = usize::MAX;
 
-/// What is right after a call.
+/// The right outcome of a call.
 pub struct Right<'a, A, T> {
-    /// What it answers.
+    /// The answer.
     pub answer: A,
-    /// What the output begins with; the rest of it is as it was.
+    /// The elements that the output begins with; the rest of it is as it was.
     pub out: &'a [T],
     /// Whether all of the work space is zeros; else it is as it was.
     pub cleared: bool,
 }
 
-/// Makes a call of this name with so many elements of work space and of output, with guards around both, and holds what comes
-/// back to what is right. The answer, if all is.
+/// Makes a call of this name with this many elements of work space and of output, with guards around both, and compares what
+/// comes back with what is right. The answer, if all is.
 pub fn call<A: PartialEq + Debug, T: Element>(
     name: &str,
     (work_n, out_n): (usize, usize),
@@ -72,7 +72,7 @@ pub fn with_every_length(
     Ok(())
 }
 
-/// The lengths to try where so many elements are just enough.
+/// The lengths to try where `enough` elements are just enough.
 fn lengths(enough: usize, most: usize, rng: &mut Rng) -> Vec<usize> {
     let far = match rng.one_in(40) {
         true => most + rng.small(3000),

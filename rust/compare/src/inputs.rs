@@ -27,7 +27,7 @@ pub enum Kind {
     Extreme(usize),
 }
 
-/// An extreme comes once in so many inputs, as it takes its time.
+/// One input in this many is an extreme, as it takes its time.
 const EXTREME: u64 = 1024;
 
 impl Kind {

@@ -2,7 +2,7 @@
 
 use crate::draft::Draft;
 
-/// What the fields of the largest record are.
+/// The kind of fields that the largest record has.
 #[derive(Clone, Copy, Debug)]
 pub enum Filling {
     /// As many as fit: fields with no bytes.
@@ -30,7 +30,7 @@ pub fn plain_fields() -> Vec<u8> {
     fields(24, Filling::EmptyFields)
 }
 
-/// Fields of Section 1 that take just so many bytes.
+/// Fields of Section 1 that take exactly this many bytes.
 fn fields(bytes: usize, filling: Filling) -> Vec<u8> {
     let mut fields = vec![2, 2, 0, b'7', 0, 14, 0, 0];
     let last = [25, 4, 0, 0xE8, 7, 3, 14, 26, 3, 0, 9, 26, 53, 255, 0, 0];

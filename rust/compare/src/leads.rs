@@ -77,7 +77,7 @@ fn ask(record: &[u8], row: u8) -> u8 {
     unsafe { raw::scp_breaks(record.as_ptr(), record.len(), row) }
 }
 
-/// What the record says of a lead, as the judge has it too.
+/// The record's description of a lead, if the judge has the same.
 fn entry(
     record: &[u8],
     place: usize,
@@ -110,7 +110,7 @@ fn entry(
 }
 
 /// Reads a lead with an output that is just enough or longer, and work space that is just enough; where there is no lead,
-/// with any lengths. What refuses the entry refuses the reading.
+/// with any lengths. If the entry is refused, the reading is refused alike.
 fn read_once(
     record: &[u8],
     place: usize,
@@ -148,7 +148,7 @@ fn read_with_every_length(
     })
 }
 
-/// Reads a lead with so many elements of work space and of output.
+/// Reads a lead with this many elements of work space and of output.
 fn read(
     record: &[u8],
     place: usize,
@@ -160,8 +160,8 @@ fn read(
     read_as_judged(record, place, (work_n, out_n), judged, rng, tally)
 }
 
-/// Has the library read a lead with so many elements of work space and of output, with guards around both, and holds what
-/// comes back to what the judge has.
+/// Has the library read a lead with this many elements of work space and of output, with guards around both, and compares what
+/// comes back with what the judge has.
 fn read_as_judged(
     record: &[u8],
     place: usize,
@@ -186,7 +186,7 @@ fn read_as_judged(
     Ok(())
 }
 
-/// What is to come back.
+/// The outcome that is expected.
 fn right(judged: &Result<judge::Lead, Refused>) -> Right<'_, raw::ScpLead, i16> {
     match judged {
         Err(refused) => Right {

@@ -7,9 +7,9 @@ use judge::make::Rng;
 /// The elements of each guard.
 const GUARD: usize = 16;
 
-/// What is lent: bytes, samples, or numbers.
+/// The elements that are lent: bytes, samples, or numbers.
 pub trait Element: Copy + PartialEq + Default {
-    /// The element that a number stands for: never 0, so that clearing is always seen.
+    /// The element for a number: never 0, so that clearing is always seen.
     fn of(number: u64) -> Self;
 }
 
@@ -54,7 +54,7 @@ impl<T: Element> Lent<T> {
         }
     }
 
-    /// What is lent.
+    /// The part that is lent.
     pub fn lent(&self) -> &[T] {
         &self.memory[self.start..self.start + self.length]
     }
@@ -97,7 +97,7 @@ impl Room {
 
 /// Space to write in, of any length and at any alignment, between guards: an output or a work space.
 ///
-/// What stands in it before a call is a pattern that can be told again, so that no copy of it is kept.
+/// Before a call it holds a pattern that can be computed again, so that no copy of it is kept.
 pub struct Space<T> {
     memory: Vec<T>,
     start: usize,
@@ -106,7 +106,7 @@ pub struct Space<T> {
 }
 
 impl<T: Element> Space<T> {
-    /// Space for so many elements.
+    /// Space for `length` elements.
     pub fn new(length: usize, rng: &mut Rng) -> Space<T> {
         let start = GUARD + rng.below(8);
         let seed = rng.number() | 1;
@@ -119,7 +119,7 @@ impl<T: Element> Space<T> {
         }
     }
 
-    /// What is lent.
+    /// The part that is lent.
     pub fn lent(&mut self) -> &mut [T] {
         &mut self.memory[self.start..self.start + self.length]
     }

@@ -27,7 +27,7 @@ use judge::make::{self, Rng};
 use inputs::Kind;
 use tally::Tally;
 
-/// With one in so many inputs there comes a lead to encode.
+/// One input in this many comes with a lead to encode.
 const LEADS: u64 = 4;
 
 /// Compares on `count` inputs that the seed fixes, and on leads to encode. The counts, or what differs first and on which input.

@@ -5,7 +5,7 @@ use crate::draft::Draft;
 /// Section 2's data that name the default table.
 pub const DEFAULT_TABLE: [u8; 2] = 19_999u16.to_le_bytes();
 
-/// A code: its prefix as it stands in a stream, how many bits follow it, and what it means.
+/// A code: its prefix as it is in a stream, how many bits follow it, and what it means.
 #[derive(Clone, Debug)]
 pub struct Code {
     /// Letters `0` and `1`.
@@ -28,7 +28,7 @@ pub fn value(prefix: impl Into<String>, base: i16) -> Code {
     }
 }
 
-/// A code that takes its value from so many bits after it.
+/// A code that takes its value from `remainder` bits after it.
 pub fn remainder(prefix: impl Into<String>, remainder: u8) -> Code {
     Code {
         prefix: prefix.into(),
@@ -81,7 +81,7 @@ pub fn two_tables() -> Vec<u8> {
     tables(&[one, two])
 }
 
-/// How many tables the data of a Section 2 say that they have, where they may have so many.
+/// How many tables the data of a Section 2 say that they have, where that many are allowed.
 pub fn tables_in(section2: &[u8]) -> usize {
     match *section2 {
         [low, high, ..] if [low, high] == DEFAULT_TABLE => 1,
@@ -128,7 +128,7 @@ pub fn shortest(section_2: &[u8], order: u8, samples: &[i16]) -> Vec<u8> {
         .bytes
 }
 
-/// What Section 3 says of a lead.
+/// Section 3's entry for a lead.
 #[derive(Clone, Copy, Debug)]
 pub struct Span {
     pub first: u32,

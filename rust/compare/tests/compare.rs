@@ -12,10 +12,10 @@ const SEED: u64 = 2001;
 const COUNT: u64 = 20_480;
 const SETS: u64 = 40_000;
 const JOBS: u64 = 10_240;
-/// At least so many of the sets have each thing that makes the choice of a stream hard.
+/// At least this many of the sets have each thing that makes the choice of a stream hard.
 const ENOUGH: u64 = 10_000;
 
-/// What each call can answer: 0, and the refusals.
+/// The answers that each call can give: 0, and the refusals.
 const ROWS: [(Call, &[u8]); 9] = [
     (Call::Open, &[0, 1, 2, 3, 4, 5, 6]),
     (Call::Field, &[0, 1, 2, 3, 4, 5, 6, 10]),

@@ -16,7 +16,7 @@ use scp::{Pointer, Refusal};
 const STACK: usize = 64 * 1024;
 const STACK_FOR_LEADS: usize = 256 * 1024;
 
-/// What every call answers of a record.
+/// The answers of every call on a record.
 #[derive(Debug, PartialEq)]
 struct Answers {
     crc: u16,
@@ -94,7 +94,7 @@ fn made_records_fit_a_small_stack() {
 
 // ---- leads
 
-/// What the calls on leads answer of a record.
+/// The answers of the calls on a record's leads.
 #[derive(Debug, PartialEq)]
 struct Leads {
     broken: Option<u8>,

@@ -74,7 +74,7 @@ pub fn beat<'a>(
     })
 }
 
-/// The zones of type 0 among so many QRS, as far as they are whole.
+/// The zones of type 0 among `number` QRS, as far as they are whole.
 fn zones(
     data: &mut Bytes,
     number: usize,

@@ -4,7 +4,7 @@
 const PRESET: u16 = 0xFFFF;
 /// x^16 + x^12 + x^5 + 1, without its highest term.
 const POLYNOMIAL: u16 = 0x1021;
-/// What eight steps make of a register that holds one byte at its top.
+/// The result of eight steps on a register that holds one byte at its top.
 const STEPS: [u16; 256] = steps();
 
 /// The check over `bytes`: the most significant bit goes first and nothing is changed at the end.

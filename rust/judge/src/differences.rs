@@ -1,6 +1,6 @@
 //! Differences of order 0, 1 and 2, both ways (01, Leads and samples).
 
-/// What a stored value is added to, to give the sample after these: nothing where samples are
+/// The number to which a stored value is added to give the sample after these: 0 where samples are
 /// stored as they are, else X(n-1) for order 1 and 2X(n-1)-X(n-2) for order 2.
 pub fn foreseen(order: u8, earlier: &[i16]) -> i32 {
     match (order, earlier) {

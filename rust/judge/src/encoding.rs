@@ -338,7 +338,7 @@ mod tests {
         }
     }
 
-    /// The first stream of at most so many bits, shorter ones first and then smaller ones, that
+    /// The first stream of at most `most` bits, shorter ones first and then smaller ones, that
     /// reads to the values and has nothing left over.
     fn found(tables: &Tables, values: &[i32], most: usize) -> Option<(usize, Vec<u8>)> {
         for bits in 0..=most {

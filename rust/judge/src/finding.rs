@@ -1,4 +1,4 @@
-//! What breaks a rule: where it stands, what was found there and what the rule expects.
+//! Breaches of the rules: where each is, what was found there and what the rule expects.
 //!
 //! Findings are the judgement itself: a row is broken exactly if something is found. The words for
 //! a reader are made by whoever shows them.
@@ -12,7 +12,7 @@ pub struct Finding {
     pub row: u8,
     /// The section that it is in or about.
     pub section: Option<u16>,
-    /// The byte where it stands, counted from 1 in the record, or in the data that were given.
+    /// The offset of the fault, counted from 1 in the record, or in the data that were given.
     pub offset: Option<usize>,
     pub part: Part,
     pub fault: Fault,
@@ -79,18 +79,18 @@ pub enum What {
     RecordBytes,
 }
 
-/// What data are too short for.
+/// The thing that data are too short for.
 #[derive(Clone, Copy, Debug, PartialEq, Eq)]
 pub enum Needs {
     /// The numbers that the section's data start with.
     Head,
-    /// The byte count of each of so many leads.
+    /// The byte count of each of this many leads.
     ByteCounts(usize),
-    /// So many leads of Section 3.
+    /// This many leads of Section 3.
     Leads(usize),
-    /// So many QRS.
+    /// This many QRS.
     Qrs(usize),
-    /// A table of so many structures.
+    /// A table of this many structures.
     Structures(usize),
     /// The number of structures of a table.
     Table,
@@ -100,7 +100,7 @@ pub enum Needs {
     Section,
 }
 
-/// What is wrong: what was found, and what was expected.
+/// A fault: what was found, and what was expected.
 #[derive(Clone, Debug, PartialEq, Eq)]
 pub enum Fault {
     /// A number outside its bounds.
@@ -129,14 +129,14 @@ pub enum Fault {
     Stream(StreamFault),
 }
 
-/// What is wrong with the record as a whole, with Section 0, or with a section's place or check.
+/// A fault of the record as a whole, of Section 0, or of a section's place or CRC.
 #[derive(Clone, Debug, PartialEq, Eq)]
 pub enum FrameFault {
     /// The record's length, and its size field if it has one.
     Size { length: usize, field: Option<u32> },
     /// A check that differs.
     Check { stored: u16, computed: u16 },
-    /// What stands in the place of SCPECG.
+    /// The bytes found in the place of SCPECG.
     Letters([u8; 6]),
     /// Section 0's length is not that of 12 to 64 pointers.
     PointersLength(u32),
@@ -154,13 +154,13 @@ pub enum FrameFault {
     OddLength(u32),
 }
 
-/// What is wrong with the fields of Section 1.
+/// A fault in the fields of Section 1.
 #[derive(Clone, Debug, PartialEq, Eq)]
 pub enum FieldFault {
     NoEndMark {
         left: usize,
     },
-    /// A field that must stand exactly once.
+    /// A field that must occur exactly once.
     Times(usize),
     /// The place of an identifier's first NUL, from 1, if it has one.
     Nul {
@@ -169,7 +169,7 @@ pub enum FieldFault {
     },
 }
 
-/// What is wrong with a code structure of Section 2.
+/// A fault in a code structure of Section 2.
 #[derive(Clone, Debug, PartialEq, Eq)]
 pub enum CodeFault {
     BaseCode {
@@ -181,7 +181,7 @@ pub enum CodeFault {
         code_bits: u8,
         prefix_bits: u8,
     },
-    /// A switch with so many bits after its prefix.
+    /// A switch with this many bits after its prefix.
     SwitchRemainder(u8),
     /// A switch to a table that does not exist.
     SwitchTo {
@@ -196,7 +196,7 @@ pub enum CodeFault {
     },
 }
 
-/// What is wrong with Sections 3 to 6.
+/// A fault in Sections 3 to 6.
 #[derive(Clone, Debug, PartialEq, Eq)]
 pub enum LeadFault {
     /// The first sample is after the last.
@@ -227,7 +227,7 @@ pub enum LeadFault {
     },
 }
 
-/// What is wrong with a zone of the reference beat.
+/// A fault in a zone of the reference beat.
 #[derive(Clone, Debug, PartialEq, Eq)]
 pub enum ZoneFault {
     /// A QRS of a type without a zone that has one.
@@ -244,7 +244,7 @@ pub enum ZoneFault {
     },
 }
 
-/// What is wrong with a lead's stream, or with samples that are to be put into one.
+/// A fault in a lead's stream, or in samples that are to be put into one.
 #[derive(Clone, Debug, PartialEq, Eq)]
 pub enum StreamFault {
     /// No code of the table starts at this bit of the stream, from 1.
@@ -331,7 +331,7 @@ impl Findings {
         self.section = Some(section);
     }
 
-    /// What is found in this part, which starts at this byte.
+    /// The spot for findings in this part, which starts at this byte.
     pub fn at(&mut self, part: Part, offset: usize) -> Spot<'_> {
         let offset = Some(offset);
         Spot {
@@ -341,7 +341,7 @@ impl Findings {
         }
     }
 
-    /// What is found in a part that has no one byte to point at.
+    /// The spot for findings in a part that has no one byte to point at.
     pub fn of(&mut self, part: Part) -> Spot<'_> {
         Spot {
             findings: self,
@@ -354,7 +354,7 @@ impl Findings {
         self.list
     }
 
-    /// What was read, if nothing was found.
+    /// The value that was read, if nothing was found.
     pub fn or<T>(self, read: Option<T>) -> Result<T, Vec<Finding>> {
         match read {
             Some(read) if self.list.is_empty() => Ok(read),
@@ -407,7 +407,7 @@ impl Spot<'_> {
         self.hold(expected.contains(&found), fault)
     }
 
-    /// Notes that so many bytes are needed and fewer are left.
+    /// Notes that this many bytes are needed and fewer are left.
     pub fn short(&mut self, needs: Needs, bytes: usize, left: usize) {
         self.push(Fault::Short { needs, bytes, left });
     }

@@ -11,13 +11,13 @@ use std::ops::{Range, RangeInclusive};
 const END: u8 = 255;
 /// Bytes of a field's tag and length.
 const TAG_AND_LENGTH: usize = 3;
-/// Tags that stand exactly once.
+/// Tags that occur exactly once.
 const ONCE: [u8; 4] = [IDENTIFIER, DEVICE, DATE, TIME];
 const IDENTIFIER: u8 = 2;
 const DEVICE: u8 = 14;
 const DATE: u8 = 25;
 const TIME: u8 = 26;
-/// Section 1 may have so many bytes after its end mark.
+/// Section 1 may have this many bytes after its end mark.
 const SPARE: usize = 1;
 
 /// A step of the walk: a field's tag, where its bytes start, how many they are, and where the next
@@ -67,7 +67,7 @@ pub fn section_1(record: &[u8]) -> Vec<Finding> {
     data_of(record, 1).map_or_else(Vec::new, |data| fields(data, SPARE))
 }
 
-/// Whether these data are fields by the rules, the end mark, and at most so many bytes after it.
+/// Whether these data are fields by the rules, the end mark, and at most this many bytes after it.
 pub fn fields(data: Bytes, most_after: usize) -> Vec<Finding> {
     let mut found = Findings::new(row::SECTION_1, Some(1));
     let bytes = data.slice();
@@ -88,7 +88,7 @@ pub fn fields(data: Bytes, most_after: usize) -> Vec<Finding> {
     found.list()
 }
 
-/// What stands after the last field, from this byte on: whether it starts with the end mark.
+/// Judges the bytes after the last field, from this one on: whether they start with the end mark.
 fn ending(rest: &[u8], offset: usize, most_after: usize, found: &mut Findings) -> bool {
     match *rest {
         [END, 0, 0, ref after @ ..] => {
@@ -152,7 +152,7 @@ mod tests {
         super::fields(Bytes::new(data), most_after).is_empty()
     }
 
-    /// The fields that must stand, with this identifier field, then these bytes.
+    /// The fields that must be present, with this identifier field, then these bytes.
     fn data(identifier: &[u8], rest: &[u8]) -> Vec<u8> {
         let others = [14, 0, 0, 25, 4, 0, 1, 2, 3, 4, 26, 3, 0, 1, 2, 3];
         [identifier, &others, rest].concat()

@@ -26,7 +26,7 @@ pub fn breaks(record: &[u8], row: u8) -> bool {
     !findings(record, row).is_empty()
 }
 
-/// What breaks the smallest of these rows that is broken.
+/// The findings for the smallest of these rows that is broken.
 pub fn smallest(record: &[u8], rows: RangeInclusive<u8>) -> Result<(), Vec<Finding>> {
     for row in rows {
         let found = findings(record, row);

@@ -13,7 +13,7 @@ use crate::stored::{stored, Stored, SPARE};
 const HEAD: usize = 2;
 const LEAD: usize = 9;
 
-/// What Section 3 says of a lead.
+/// Section 3's entry for a lead.
 #[derive(Clone, Copy, Debug)]
 pub struct Span {
     pub first: u32,

@@ -1,8 +1,8 @@
 //! An independent reading of document 01, to compare the proved library with.
 //!
 //! Each call judges the bytes it is given by itself and answers what the rules say, or the number
-//! of the refusal. What is refused can be explained: [`lead_findings`], [`job_findings`] and
-//! [`findings`] answer all that breaks the rule, and where it stands. The algorithms are the
+//! of the refusal. A refusal can be explained: [`lead_findings`], [`job_findings`] and
+//! [`findings`] answer all that breaks the rule, and where it is. The algorithms are the
 //! plainest that stay linear; [`make`] has records to judge, sound and damaged. Places in bytes
 //! count from 0, leads, occurrences and the offsets of findings from 1.
 

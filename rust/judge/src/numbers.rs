@@ -1,7 +1,7 @@
 //! Little-endian numbers out of bytes, and a cursor that takes them one after another (01, The
 //! record).
 //!
-//! Nothing here fails on short bytes: where a number does not stand whole, the answer is `None`.
+//! Nothing here fails on short bytes: where a number is not there whole, the answer is `None`.
 
 /// The number of 2 bytes that starts at `at`, counted from 0.
 pub fn two_at(bytes: &[u8], at: usize) -> Option<u16> {
@@ -13,7 +13,7 @@ pub fn four_at(bytes: &[u8], at: usize) -> Option<u32> {
     Bytes::new(bytes.get(at..)?).four()
 }
 
-/// The bytes not taken yet, and where the first of them stands.
+/// The bytes not taken yet, and the offset of the first of them.
 #[derive(Clone, Copy, Debug)]
 pub struct Bytes<'a> {
     bytes: &'a [u8],
@@ -39,7 +39,7 @@ impl<'a> Bytes<'a> {
         self.bytes
     }
 
-    /// Where the next byte stands, counted from 1.
+    /// The offset of the next byte, counted from 1.
     pub fn offset(&self) -> usize {
         self.offset
     }
@@ -51,7 +51,7 @@ impl<'a> Bytes<'a> {
         Some(taken)
     }
 
-    /// So many bytes as a cursor of their own.
+    /// The next `count` bytes as a cursor of their own.
     pub fn part(&mut self, count: usize) -> Option<Bytes<'a>> {
         let offset = self.offset;
         self.take(count).map(|bytes| Bytes::at(bytes, offset))

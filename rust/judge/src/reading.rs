@@ -15,7 +15,7 @@ use crate::stored::Stored;
 use crate::stream::{NoValue, Values};
 use crate::tables::{tables, Tables, SPARE};
 
-/// What the record says of a lead, its stream unread.
+/// The record's description of a lead, its stream unread.
 #[derive(Clone, Copy, Debug, PartialEq, Eq)]
 pub struct Entry {
     pub id: u8,
@@ -55,8 +55,8 @@ pub struct Found<'a> {
     stream: Bytes<'a>,
 }
 
-/// What the record says of the lead at this place of Section 3, from 1, or the smallest of 1 to 10
-/// that applies.
+/// The record's description of the lead at this place of Section 3, from 1, or the smallest of 1 to
+/// 10 that applies.
 pub fn lead(record: &[u8], place: usize) -> Result<Entry, u8> {
     let found = find(record, place).map_err(|found| number(&found))?;
     Ok(Entry {
@@ -191,7 +191,7 @@ impl Stream<'_> {
     }
 }
 
-/// What is wrong with a stream: at the sample of this place, from 0, and at this bit, from 1.
+/// A fault in a stream: at the sample of this place, from 0, and at this bit, from 1.
 #[derive(Clone, Debug)]
 pub struct Wrong {
     pub at: usize,
@@ -218,8 +218,8 @@ impl Wrong {
     }
 }
 
-/// So many samples out of a stream, value by value: 12 where a value cannot be read, 13 where its
-/// sample has more than 16 bits, and 14 where 8 or more bits are left in the end.
+/// Reads `count` samples out of a stream, value by value: 12 where a value cannot be read, 13 where
+/// its sample has more than 16 bits, and 14 where 8 or more bits are left in the end.
 pub fn read_stream(
     stream: &[u8],
     tables: Option<&Tables>,
@@ -293,7 +293,7 @@ impl Reader {
         Ok(Reader { tables })
     }
 
-    /// So many samples out of a stream, or 12 to 14.
+    /// Reads `count` samples out of a stream, or answers 12 to 14.
     pub fn samples(&self, stream: &[u8], order: u8, count: usize) -> Result<Vec<i16>, u8> {
         let read = read_stream(stream, self.tables.as_ref(), order, count);
         read.map_err(|wrong| wrong.row())

@@ -13,9 +13,9 @@ pub const HEADER: usize = 16;
 pub const BEFORE_SECTION_0: usize = 6;
 /// Bytes of a pointer.
 pub const POINTER: usize = 10;
-/// What Section 0 has in its reserved bytes.
+/// The letters in the reserved bytes of Section 0.
 pub const LETTERS: &[u8; 6] = b"SCPECG";
-/// How many IDs stand in order, before those that only rise.
+/// How many IDs come in order, before those that only rise.
 const IN_ORDER: usize = 12;
 /// Where Section 0 says that it starts, counted from 1.
 const OWN_INDEX: i64 = 7;
@@ -210,7 +210,7 @@ pub fn section_checks(record: &[u8]) -> Vec<Finding> {
     found.list()
 }
 
-/// Whether the first two bytes are the check over all after them; so it stands in records and in
+/// Whether the first two bytes are the CRC over all after them, as they are in records and in
 /// sections.
 fn check(bytes: &[u8], found: &mut Findings) {
     if let (Some(stored), Some(rest)) = (two_at(bytes, 0), bytes.get(2..)) {
@@ -260,7 +260,7 @@ pub fn pointers(record: &[u8]) -> Vec<Pointer> {
         .collect()
 }
 
-/// Whether the letters of Section 0 stand where every record has them.
+/// Whether the letters of Section 0 are where every record has them.
 pub fn has_letters(record: &[u8]) -> bool {
     let at = BEFORE_SECTION_0 + 10;
     record.get(at..at + LETTERS.len()) == Some(LETTERS)

@@ -5,12 +5,12 @@ use crate::bounds;
 use crate::finding::{self, Findings, LeadFault, Needs, Part, What};
 use crate::numbers::Bytes;
 
-/// Sections 3, 5 and 6 may end in so many spare bytes.
+/// Sections 3, 5 and 6 may end in this many spare bytes.
 pub const SPARE: usize = 1;
 /// The bytes before the byte counts.
 const HEAD: usize = 6;
 
-/// What Section 5 or 6 holds.
+/// The content of Section 5 or 6.
 #[derive(Clone, Debug)]
 pub struct Stored<'a> {
     pub step: u16,
@@ -18,13 +18,13 @@ pub struct Stored<'a> {
     pub order: u8,
     /// Reserved in Section 5, bimodal in Section 6.
     pub sixth: u8,
-    /// Where the sixth byte stands, counted from 1.
+    /// The offset of the sixth byte, counted from 1.
     pub offset: usize,
     /// The stream of each lead.
     pub streams: Vec<Bytes<'a>>,
 }
 
-/// Section 5 or 6 for so many leads, its sixth byte not judged; `None` if it ends before its
+/// Section 5 or 6 for `leads` leads, its sixth byte not judged; `None` if it ends before its
 /// streams.
 pub fn stored<'a>(mut data: Bytes<'a>, leads: usize, found: &mut Findings) -> Option<Stored<'a>> {
     let (start, left) = (data.offset(), data.left());

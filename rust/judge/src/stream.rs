@@ -171,7 +171,7 @@ impl Put {
         }
     }
 
-    /// The top so many bits, 1 to 32.
+    /// The top `count` bits, 1 to 32.
     pub fn top_bits(&mut self, from: u32, count: u32) {
         for place in 0..count {
             let bit = from >> (31 - place) & 1;

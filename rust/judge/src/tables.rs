@@ -8,7 +8,7 @@ use crate::row;
 
 /// The number of tables that means the default table alone.
 pub const DEFAULT: u16 = 19_999;
-/// Section 2 may end in so many spare bytes.
+/// Section 2 may end in this many spare bytes.
 pub const SPARE: usize = 1;
 /// Bytes of a structure.
 const STRUCTURE: usize = 9;
@@ -16,12 +16,12 @@ const STRUCTURE: usize = 9;
 const PREFIX_MAX: i64 = 32;
 const REMAINDER_MAX: i64 = 16;
 
-/// What stands after a matched prefix, and what it means.
+/// The meaning of a matched prefix, and what follows it.
 #[derive(Clone, Copy, Debug, PartialEq, Eq)]
 pub enum Meaning {
     /// The code is this value.
     Value(i16),
-    /// So many bits follow, 1 to 16, and are the value in two's complement.
+    /// This many bits follow, 1 to 16, and are the value in two's complement.
     Remainder(u32),
     /// Codes go on in this table, counted from 1.
     Switch(usize),
@@ -56,7 +56,7 @@ pub fn section_2(record: &[u8]) -> Vec<Finding> {
     judged.and_then(Result::err).unwrap_or_default()
 }
 
-/// The tables that these data give, if they keep the rules and end in at most so many spare bytes.
+/// The tables that these data give, if they keep the rules and have at most this many spare bytes.
 pub fn tables(mut data: Bytes, most_spare: usize) -> Result<Tables, Vec<Finding>> {
     let mut found = Findings::new(row::SECTION_2, Some(2));
     let tables = all(&mut data, &mut found);
@@ -87,7 +87,7 @@ fn all(data: &mut Bytes, found: &mut Findings) -> Option<Tables> {
     tables.collect()
 }
 
-/// A table of so many; `None` where the data end in it, or cannot be read on.
+/// A table out of `tables`; `None` where the data end in it, or cannot be read on.
 fn table(
     data: &mut Bytes,
     own: usize,
@@ -214,12 +214,12 @@ impl Structure {
         u64::from(self.prefix ^ bits) >> (32 - shorter) != 0
     }
 
-    /// Whether a stream that goes on with these bits, so many of them left, starts with the prefix.
+    /// Whether a stream that goes on with these bits, `left` of them, starts with the prefix.
     pub fn matches(&self, next: u32, left: usize) -> bool {
         left >= self.prefix_bits as usize && !self.differs_within(next, self.prefix_bits)
     }
 
-    /// Whether a stream that ends after so many bits more could have gone on with the prefix.
+    /// Whether a stream that ends after `left` more bits could have gone on with the prefix.
     pub fn goes_on(&self, next: u32, left: usize) -> bool {
         left < self.prefix_bits as usize && (left == 0 || !self.differs_within(next, left as u32))
     }
@@ -258,7 +258,7 @@ pub fn default_table() -> Vec<Structure> {
     table
 }
 
-/// A structure with its prefix as it stands in a stream.
+/// A structure with its prefix as it is in a stream.
 fn spelled(prefix: &str, meaning: Meaning) -> Structure {
     let bits = prefix.bytes().zip((0..32).rev());
     Structure {

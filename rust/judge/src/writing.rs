@@ -13,7 +13,7 @@ use crate::refused::Refused;
 use crate::row;
 use crate::tables::Tables;
 
-/// What is to be written. Each lead has a first sample number, a count of samples and an ID at its
+/// A record to be written. Each lead has a first sample number, a count of samples and an ID at its
 /// place in the three lists; `samples` are those of the first lead, then of the second, and so on.
 #[derive(Clone, Copy, Debug)]
 pub struct Writing<'a> {

@@ -1,4 +1,4 @@
-//! What is refused has findings, all of the refusal's row and inside the record; what is accepted has none.
+//! Refused input has findings, all of the refusal's row and inside the record; accepted input has none.
 
 use judge::make::{self, Rng};
 use judge::{
@@ -49,7 +49,7 @@ fn jobs_are_refused_for_what_is_found() {
     assert!(refused > 50, "{refused}");
 }
 
-/// A table of two structures in a record that has nothing else wrong: where the second stands, and what it has.
+/// A table of two structures in a record that has nothing else wrong: where the second is, and what it has.
 #[test]
 fn a_finding_says_where_it_stands() {
     let tables = [

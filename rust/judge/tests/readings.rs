@@ -78,7 +78,7 @@ impl Record {
         mended(bytes)
     }
 
-    /// What reading this lead gives, with room for all.
+    /// The result of reading this lead, with room for all.
     fn read(&self, place: usize) -> Result<Vec<i16>, u8> {
         let read = read_lead(&self.bytes(), place, 3, 2);
         read.map(|lead| lead.samples)
@@ -86,7 +86,7 @@ impl Record {
     }
 }
 
-/// Identifier 7, and the other fields that must stand.
+/// Identifier 7, and the other fields that must be present.
 const SECTION_1: [u8; 24] = [
     2, 2, 0, 0x37, 0, 14, 0, 0, 25, 4, 0, 1, 2, 3, 4, 26, 3, 0, 1, 2, 3, 255, 0, 0,
 ];

@@ -152,7 +152,7 @@ fn too_little_room_is_11_and_leaves_work_space_untouched() {
     }
 }
 
-/// A known record as it is written, with room for so many bytes.
+/// A known record as it is written, with room for `out_len` bytes.
 fn written(record: &Known, out_len: usize) -> Result<Vec<u8>, Refused> {
     let section1 = record.data(1, record.identifier.len() % 2);
     let each = |of: fn(&KnownLead) -> u32| record.leads.iter().map(of).collect::<Vec<_>>();

@@ -4,7 +4,7 @@ use crate::leads::SAMPLES_MAX;
 use crate::raw;
 use crate::Refusal;
 
-/// The most tables that Section 2 has: so many bytes of work space for each sample are always enough.
+/// The most tables that Section 2 has: this many bytes of work space for each sample are always enough.
 pub const TABLES_MAX: usize = 8;
 
 /// The most bytes that a lead's stream has: so much room for one is always enough.
@@ -23,7 +23,7 @@ pub struct Coded {
 /// the one of the fewest bits, and of those equally short the one that is smaller at the first differing bit. `section2` is
 /// Section 2's data with no spare byte; empty data mean none, and two bytes for each value.
 ///
-/// The first so many bytes of `out` are the stream, and no others are changed. Work space is needed where there is a
+/// The stream is at the start of `out`, and no other bytes of it are changed. Work space is needed where there is a
 /// Section 2, a byte for each sample times each table; all that was lent is zeros once the search has begun, and untouched
 /// otherwise.
 ///

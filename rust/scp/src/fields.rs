@@ -6,7 +6,7 @@ use std::ops::Range;
 use crate::raw;
 use crate::Refusal;
 
-/// Where the first field of a section stands: just after the section's header.
+/// The offset of the first field in a section: just after the section's header.
 pub const FIRST_FIELD: usize = 16;
 
 /// A field that a step of the walk shows. Its places count from the start of the section.
@@ -50,7 +50,7 @@ pub fn walk_start(record: &[u8]) -> Result<Range<usize>, Refusal> {
     part(unsafe { raw::scp_walk_start(record.as_ptr(), record.len()) })
 }
 
-/// Shows the field that stands at `at` in a section, [`FIRST_FIELD`] being the place of the first, or `None` at the
+/// Shows the field that is at `at` in a section, [`FIRST_FIELD`] being the place of the first, or `None` at the
 /// end. The section is not judged: any bytes and any place may be given.
 pub fn walk_step(section: &[u8], at: usize) -> Option<Step> {
     // SAFETY: the pointer and the length are those of a slice lent for the call, which only reads it.
@@ -66,7 +66,7 @@ pub fn walk_step(section: &[u8], at: usize) -> Option<Step> {
     })
 }
 
-/// Walks over all fields of a record, in the order they stand in. Refused as opening is.
+/// Walks over all fields of a record, in the order they have there. Refused as opening is.
 pub fn fields(record: &[u8]) -> Result<Fields<'_>, Refusal> {
     let section = walk_start(record)?;
     Ok(Fields {

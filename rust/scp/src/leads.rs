@@ -36,7 +36,7 @@ impl Lead {
     }
 }
 
-/// What a record says of a lead, its stream unread.
+/// A record's description of a lead, its stream unread.
 #[derive(Clone, Copy, Debug, PartialEq, Eq)]
 pub struct Entry {
     /// The lead's ID.
@@ -71,7 +71,7 @@ impl Entry {
     }
 }
 
-/// Reads the lead at a place of Section 3, from 1. The first so many elements of `out` are its samples, and no others are
+/// Reads the lead at a place of Section 3, from 1. Its samples are the first elements of `out`, and no others are
 /// changed. Work space is needed where a reference beat was subtracted, an element for each sample of the beat; all that
 /// was lent is zeros once the beat's reading has begun, and untouched otherwise.
 ///

@@ -1,4 +1,4 @@
-//! The C interface as it is, call for call: `rust/include/scp.h` in Rust's words. What each call answers is said there. The
+//! The C interface as it is, call for call: `rust/include/scp.h` in Rust's words. The header says what each call answers. The
 //! calls that room is lent to are here on slices too, with the same answers.
 
 use crate::Job;
@@ -9,7 +9,7 @@ pub const POINTERS_MAX: usize = 64;
 /// The numbers that [`scp_open`] asks room for: three for each pointer.
 pub const POINTERS_ROOM: usize = 3 * POINTERS_MAX;
 
-/// What opening a record answers.
+/// The answer to opening a record.
 #[repr(C)]
 #[derive(Clone, Copy, Debug, PartialEq, Eq)]
 pub struct ScpOpened {
@@ -67,7 +67,7 @@ pub struct ScpLead {
     pub count: u32,
 }
 
-/// What a record says of a lead, its stream unread.
+/// A record's description of a lead, its stream unread.
 #[repr(C)]
 #[derive(Clone, Copy, Debug, Default, PartialEq, Eq)]
 pub struct ScpEntry {

@@ -13,7 +13,7 @@ pub struct Pointer {
     pub id: u16,
     /// The section's length in bytes with its header; 0 if it is absent.
     pub length: u32,
-    /// Where its first byte stands in the record, counted from 1. Any number if it is absent.
+    /// The offset of its first byte in the record, counted from 1. Any number if it is absent.
     pub index: u32,
 }
 

@@ -34,9 +34,9 @@ struct Row {
     number: u8,
     /// The constant's name, as C and Python have it too.
     id: &'static str,
-    /// What the rule is about, in a word or two.
+    /// The subject of the rule, in a word or two.
     name: &'static str,
-    /// What the rule asks, in a line.
+    /// The rule, in a line.
     rule: &'static str,
     /// The same for a person who meets it.
     plain: &'static str,
@@ -280,7 +280,7 @@ impl Refusal {
         TABLE.iter().map(|row| Refusal(row.number))
     }
 
-    /// What a call's `refusal` says: accepted (0) with `answer`, or refused.
+    /// Turns a call's `refusal` into a result: accepted (0) with `answer`, or refused.
     pub(crate) fn or<T>(number: u8, answer: T) -> Result<T, Refusal> {
         match number {
             0 => Ok(answer),
@@ -298,17 +298,17 @@ impl Refusal {
         self.column(|row| row.id)
     }
 
-    /// What the rule is about, in a word or two.
+    /// The subject of the rule, in a word or two.
     pub fn name(self) -> &'static str {
         self.column(|row| row.name)
     }
 
-    /// What the rule asks, in a line.
+    /// The rule, in a line.
     pub fn words(self) -> &'static str {
         self.column(|row| row.rule)
     }
 
-    /// What the rule asks, in lines for a person who meets the refusal.
+    /// The rule, in lines for a person who meets the refusal.
     pub fn plain(self) -> &'static str {
         self.column(|row| row.plain)
     }

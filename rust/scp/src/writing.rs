@@ -6,15 +6,15 @@ use crate::raw;
 use crate::record::RECORD_MAX;
 use crate::Refusal;
 
-/// What is to be written. Each lead has a number of its first sample, a count of samples and an ID at its place in three
-/// lists; the samples of all leads stand one after another.
+/// A record to be written. Each lead has a number of its first sample, a count of samples and an ID at its place in three
+/// lists; the samples of all leads follow one another.
 #[derive(Clone, Copy, Debug)]
 pub struct Job<'a> {
     /// Section 1's data: its fields, then the end mark `FF 00 00` and nothing after it.
     pub section1: &'a [u8],
     /// Section 2's data with no spare byte; empty data mean none, and two bytes for each value.
     pub section2: &'a [u8],
-    /// What both version bytes of every section say.
+    /// The version that both version bytes of every section hold.
     pub version: u8,
     /// The flags of Section 3; bit 0 is written as 0.
     pub flags: u8,
@@ -35,7 +35,7 @@ pub struct Job<'a> {
 }
 
 impl Job<'_> {
-    /// So many bytes of work space are enough: one for each sample of the longest lead times each table that there can be;
+    /// How many bytes of work space are enough: one for each sample of the longest lead times each table that there can be;
     /// none without Section 2.
     pub fn work_room(&self) -> usize {
         let longest = self.counts.iter().copied().max().unwrap_or(0) as usize;
@@ -46,8 +46,8 @@ impl Job<'_> {
     }
 }
 
-/// Writes a record, and answers how many bytes it has. The first so many bytes of `out` are the record, and no others are
-/// changed. What is written opens, shows the same fields and is read to the same samples; each lead's stream is the one that
+/// Writes a record, and answers how many bytes it has. They are the first bytes of `out`, and no others are
+/// changed. The record opens, shows the same fields and is read to the same samples; each lead's stream is the one that
 /// [`encode_lead`](crate::encode_lead) gives.
 ///
 /// Work space is needed where there is a Section 2, a byte for each sample of the longest lead times each table; all that was

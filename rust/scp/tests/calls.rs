@@ -1,4 +1,4 @@
-//! The safe calls, on what can be told by hand. `compare` has the many inputs.
+//! The safe calls, on what can be worked out by hand. `compare` has the many inputs.
 
 use scp::{Coded, Entry, Job, Lead, Refusal, Step, FIRST_FIELD};
 

@@ -7,7 +7,7 @@ use std::sync::atomic::{AtomicBool, Ordering};
 /// The system's number for a descriptor that is not open.
 const NOT_OPEN: i32 = 9;
 
-/// What was seen.
+/// Whether standard output was closed.
 static CLOSED: AtomicBool = AtomicBool::new(false);
 
 /// Before `main` Rust's runtime opens /dev/null in the place of a standard descriptor that is closed, and nothing shows that

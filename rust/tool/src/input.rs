@@ -9,13 +9,13 @@ use std::path::Path;
 use crate::paths::is_standard;
 use crate::text::parted;
 
-/// What was read.
+/// Input that was read.
 pub struct Input {
     /// The bytes, of a record that is too long only as many as show it.
     pub bytes: Vec<u8>,
     /// How long the whole is.
     pub size: Size,
-    /// What the file system says of it, if it is a file.
+    /// The file system's metadata on it, if it is a file.
     pub metadata: Option<Metadata>,
 }
 

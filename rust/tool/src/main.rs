@@ -1,6 +1,6 @@
 //! `tigmavresh`: opens, checks, shows, packs and writes SCP-ECG records.
 //!
-//! The tool reads files and writes text, and records. What it says of a record is the proved library's answer, but for the
+//! The tool reads files and writes text, and records. All that it says of a record is the proved library's answer, but for the
 //! lines that explain a refusal, which say so ([`explain`]), and for what a field's bytes are read as ([`reading`]); a record
 //! that it writes is the library's, byte for byte.
 

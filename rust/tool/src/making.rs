@@ -8,7 +8,7 @@ pub const HEADER: usize = 16;
 /// The number of tables that means the default table.
 pub const DEFAULT_TABLE: u16 = 19_999;
 
-/// What a record is made of.
+/// The content that a record is made of.
 #[derive(Debug, Default, PartialEq)]
 pub struct Making {
     /// Section 1's data up to the end mark.
@@ -37,7 +37,7 @@ impl Making {
         self.samples.extend(samples);
     }
 
-    /// What the library is to write.
+    /// The job for the library to write.
     pub fn job(&self) -> Job<'_> {
         Job {
             section1: &self.section1,
@@ -64,8 +64,8 @@ impl Making {
         })
     }
 
-    /// Whether a record, read by the library, says all of this: fields, tables, and every lead with its samples. What differs
-    /// if it does not, which would be a fault of the library or of the disk.
+    /// Whether a record, read by the library, says all of this: fields, tables, and every lead with its samples. Says what
+    /// differs if it does not, which would be a fault of the library or of the disk.
     pub fn is_said_by(&self, record: &[u8]) -> Result<(), String> {
         let differs = |what: &str| Err(format!("{what} differs when it is read back"));
         let refused = |refusal: Refusal| format!("it is refused when it is read back: {refusal}");

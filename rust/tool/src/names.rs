@@ -1,6 +1,6 @@
 //! Names of sections, of header fields and of leads, in a few words of our own.
 
-/// What a section holds.
+/// The content of a section, in words.
 pub fn section(id: u16) -> &'static str {
     match id {
         0 => "pointers",
@@ -20,7 +20,7 @@ pub fn section(id: u16) -> &'static str {
     }
 }
 
-/// What the fields of Section 1 hold, by their tags from 0.
+/// The content of the fields of Section 1 in words, by their tags from 0.
 const FIELDS: [&str; 36] = [
     "last name",
     "first name",
@@ -60,7 +60,7 @@ const FIELDS: [&str; 36] = [
     "history as text",
 ];
 
-/// What a field of Section 1 holds.
+/// The content of a field of Section 1, in words.
 pub fn field(tag: u8) -> &'static str {
     FIELDS.get(usize::from(tag)).copied().unwrap_or("other")
 }

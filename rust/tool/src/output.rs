@@ -12,7 +12,7 @@ use crate::text::reason;
 /// Standard output, in blocks of lines that an empty line parts.
 ///
 /// A reader that has gone away (a closed pipe) is no fault: the lines go nowhere and the work goes on, so that the exit
-/// status still tells of every file. Any other error is kept, and told at the end.
+/// status still tells of every file. Any other error is kept, and reported at the end.
 pub struct Output {
     to: BufWriter<Stdout>,
     began: bool,

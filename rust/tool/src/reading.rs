@@ -1,4 +1,4 @@
-//! What the tool reads a header field's bytes as, for people: text, a date or a time. The library says nothing of it.
+//! How the tool reads a header field's bytes, for people: as text, a date or a time. The library says nothing of it.
 
 use serde::Serialize;
 

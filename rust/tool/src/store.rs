@@ -115,7 +115,7 @@ impl Target {
         matches!(self, Target::Standard)
     }
 
-    /// Puts a record there. Of a file it is first put beside, under another name, synced, read back and compared; what was
+    /// Puts a record there. For a file, it is first put beside, under another name, synced, read back and compared; what was
     /// read back is then checked, and only then it takes its name. On a failure nothing is left of it, and what was there
     /// still is.
     pub fn put(

@@ -1,4 +1,4 @@
-//! What the library says of a whole record: it is opened, and every lead of it is read.
+//! The library's verdict on a whole record: it is opened, and every lead of it is read.
 
 use std::fmt;
 
@@ -26,7 +26,7 @@ pub enum Word {
     Unread,
 }
 
-/// What was judged.
+/// The verdict on a record.
 #[derive(Clone, Copy, Debug, PartialEq, Eq)]
 pub enum Verdict {
     /// It opens, and this many leads are read: none, where it has neither Section 3 nor Section 6.

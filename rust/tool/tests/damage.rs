@@ -55,7 +55,7 @@ fn files_may_vanish() {
     assert_eq!(ran.err, reasons);
 }
 
-/// A file and a folder that nobody may read: told, and the others are checked all the same. Root may read them.
+/// A file and a folder that nobody may read are reported, and the others are checked all the same. Root may read them.
 #[test]
 fn what_may_not_be_read_is_told() {
     let folder = Folder::new("unreadable");

@@ -99,7 +99,7 @@ fn every_file_has_a_line() {
     assert_eq!(lines.len(), 5);
 }
 
-/// As JSON and as text the same is told, with the same status.
+/// JSON and text say the same, with the same status.
 #[test]
 fn json_agrees_with_the_tables() {
     for name in names() {

@@ -1,8 +1,8 @@
-//! What the tool says of itself: refusals explained, its manual page, shells' completions, its version.
+//! The tool about itself: refusals explained, its manual page, shells' completions, its version.
 
 mod common;
 
-/// What tells cargo when to build anew.
+/// The build script, which says when cargo is to build anew.
 #[allow(dead_code)]
 #[path = "../build.rs"]
 mod build;
@@ -83,7 +83,7 @@ fn every_refusal_is_explained() {
     assert_eq!(run(&["--explain", "1", "open", "007.scp"]).status, 2);
 }
 
-/// What an explanation says of a sample is what the tool finds there.
+/// An explanation says of a sample what the tool finds there.
 #[test]
 fn explanations_are_true_of_the_samples() {
     for (number, facts) in [
@@ -157,7 +157,7 @@ fn the_manual_has_every_command() {
     assert_eq!(ran.out.matches("OUT was written").count(), 2);
 }
 
-/// What a command's help ends with fits the command.
+/// The end of a command's help fits the command.
 #[test]
 fn the_help_of_a_command_is_its_own() {
     let (others, input) = ("stops the others.\n", "A FILE of - is standard input.");
@@ -174,7 +174,7 @@ fn the_help_of_a_command_is_its_own() {
     }
 }
 
-/// Each example of README.md is what the tool shows, and each command stands there.
+/// Each example of README.md is what the tool shows, and each command is there.
 #[test]
 fn the_readme_is_true() {
     let top = Path::new(env!("CARGO_MANIFEST_DIR")).join("../..");
@@ -233,7 +233,7 @@ fn shells_can_complete() {
     assert_eq!(run(&["completions", "none"]).status, 2);
 }
 
-/// What bash offers after `tigmavresh check --`, and after `tigmavresh re`.
+/// The words that bash offers after `tigmavresh check --`, and after `tigmavresh re`.
 #[test]
 fn bash_completes_commands_and_options() {
     let completions = run(&["completions", "bash"]).out;

@@ -24,7 +24,7 @@ fn broken(shown: &Value) -> Vec<(u64, bool)> {
         .collect()
 }
 
-/// What check accepts keeps every rule, and what it refuses breaks that one first, or some lead is refused with it.
+/// An accepted record keeps every rule; a refused one breaks the refusal's rule first, or some lead is refused with it.
 #[test]
 fn a_report_agrees_with_check() {
     for entry in samples().read_dir().unwrap() {
@@ -232,7 +232,7 @@ fn a_file_that_is_no_record_is_said_to_be_none() {
     assert!(found.starts_with("the CRC stored"), "{found}");
 }
 
-/// Of a file that is too long not all is read, and no more is asked than its length.
+/// A file that is too long is not read whole, and only the rule on its length is asked.
 #[test]
 fn a_long_file_is_asked_for_its_length() {
     let folder = Folder::new("long-report");

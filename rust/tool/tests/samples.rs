@@ -311,7 +311,7 @@ fn a_refusal_is_explained() {
     }
 }
 
-/// What opens is in one table, and what does not is refused alike by every command.
+/// A record that opens is in one table, and one that does not is refused alike by every command.
 #[test]
 fn the_leads_of_each_sample_are_shown() {
     for (name, opened, line, _) in SAMPLES {
@@ -416,7 +416,7 @@ fn a_table_has_a_column_for_each_lead() {
     assert_eq!(rows[12], "12,15,");
 }
 
-/// What the tool shows with these words, as JSON.
+/// The tool's output for these words, as JSON.
 fn json(words: &[&str]) -> Value {
     serde_json::from_str(&run(words).out).unwrap()
 }
@@ -495,7 +495,7 @@ fn a_record_has_one_verdict() {
     }
 }
 
-/// What is asked for is not there: the words, the number and the status, in each form.
+/// A thing that is asked for is not there: the words, the number and the status, in each form.
 #[test]
 fn what_is_not_there_is_absent() {
     let folder = Folder::new("absent");

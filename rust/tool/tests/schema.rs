@@ -85,7 +85,7 @@ fn a_file_that_cannot_be_read_is_told() {
     }
 }
 
-/// What is asked for and is not there; names and fields that are no text; input that is too long.
+/// Things that are asked for and are not there; names and fields that are no text; input that is too long.
 #[test]
 fn rare_answers_keep_the_schema() {
     for words in [

@@ -328,7 +328,7 @@ fn add_pointer(record: &mut Vec<u8>) {
     }
 }
 
-/// What would be lost, and what is said of it.
+/// Content that would be lost, and what is said of it.
 const LOSSES: [(Change, &str); 12] = [
     (add_section_7, "Section 7, measurements, is not written"),
     (add_pointer, "there are 13 pointers, and 12 are written"),
@@ -565,7 +565,7 @@ fn the_example_is_the_sample() {
     assert!(page.contains(&format!("```json\n{job}```\n")));
 }
 
-/// What docs/JOBS.md says of jobs that are wrong is what the tool says.
+/// The tool says of wrong jobs what docs/JOBS.md says.
 #[test]
 fn the_examples_of_wrong_jobs_are_true() {
     let docs = Path::new(env!("CARGO_MANIFEST_DIR")).join("../../docs/JOBS.md");
@@ -647,7 +647,7 @@ fn jobs_may_say_many_things() {
     }
 }
 
-/// What is put for what in the job, and what is told of it.
+/// The replacements in the job, and what is said of each.
 const WRONG_JOBS: [([&str; 2], &str); 26] = [
     (
         ["{\n", "{{\n"],
@@ -750,7 +750,7 @@ const WRONG_TABLES: [([&str; 2], &str); 6] = [
     ),
 ];
 
-/// What is not understood is told with its place, and nothing is written.
+/// Anything that is not understood is reported with its place, and nothing is written.
 #[test]
 fn what_a_job_says_wrongly_is_told() {
     let folder = Folder::new("wrong");
@@ -771,7 +771,7 @@ fn what_a_job_says_wrongly_is_told() {
     );
 }
 
-/// What is understood and breaks a rule is refused by the library, and what was found is told.
+/// A job that is understood and breaks a rule is refused by the library, and the findings are reported.
 const ONE_CODE: &str = "\"01 00 01 00 01 01 01 00 00 00 00 00 00\"";
 const NO_FIRST: [&str; 2] = [", \"first_sample\": 1", ""];
 
@@ -870,7 +870,7 @@ fn assert_refused(folder: &Folder, ran: &Ran, number: u8, found: &str) {
     assert_eq!(folder.names(), ["job.csv", "job.json"]);
 }
 
-/// Writes so many leads of so many samples, all 0 and without code tables.
+/// Writes `leads` leads of `count` samples, all 0 and without code tables.
 fn written(folder: &Folder, leads: usize, count: usize) -> Ran {
     let text = String::from_utf8(sample("job.json")).unwrap();
     let ids: Vec<String> = (1..=leads).map(|id| format!("{{\"id\": {id}}}")).collect();

@@ -6,11 +6,11 @@ use crate::rhythm::{two_bytes, Rhythm, Span, Stored};
 
 /// A record, what it is, and the refusals that it is to get: 0 if it is to be accepted.
 pub struct Edge {
-    /// What it is.
+    /// A description in a few words.
     pub name: String,
-    /// What opening it gives.
+    /// The result of opening it.
     pub opened: u8,
-    /// What reading its first lead gives, with room enough; of records at the edge of opening nothing is said.
+    /// The result of reading its first lead, with room enough; `None` for records at the edge of opening.
     pub read: Option<u8>,
     /// Its bytes.
     pub record: Vec<u8>,

@@ -5,7 +5,7 @@ use judge::row;
 use super::edge::{headed, two_leads, Edges};
 use crate::rhythm::{two_bytes, zone, Beat, Qrs, Rhythm, Span, Stored};
 
-/// What breaks the rules of Sections 3 to 6.
+/// The refusal where the rules of Sections 3 to 6 are broken.
 const BROKEN: u8 = row::SECTIONS_3_TO_6;
 
 /// Adds them all.
@@ -70,7 +70,7 @@ fn presence(edges: &mut Edges) {
     }
 }
 
-/// What reading a lead gives with these of Sections 3 to 6, bit 0 being as it is.
+/// The result of reading a lead with these of Sections 3 to 6, bit 0 being as it is.
 fn refusal_of(ids: &[u16], beat: u8) -> u8 {
     let there = |id| ids.contains(&id);
     match (there(3), there(6)) {
@@ -190,7 +190,7 @@ impl Edges {
 /// A change of Section 5 or 6.
 type Change = fn(&mut Stored);
 
-/// What Sections 5 and 6 have in common.
+/// The edges that Sections 5 and 6 have in common.
 fn stored(edges: &mut Edges) {
     for (refusal, name, change) in stored_changes() {
         let mut rhythm = two_leads();

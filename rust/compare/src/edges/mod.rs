@@ -1,5 +1,5 @@
-//! Records at the edges of the rules, laid out by hand: on each side of every bound, with all else right. What each is to
-//! get is written here from the rules.
+//! Records at the edges of the rules, laid out by hand: on each side of every bound, with all else right. The right answers
+//! are written here from the rules.
 
 mod edge;
 mod leads;

@@ -18,7 +18,7 @@ pub fn add(edges: &mut Edges) {
     order_of_faults(edges);
 }
 
-/// A lead of so many samples by a Section 2, none being empty, with this stream; the second lead stays sound or not.
+/// A lead of `count` samples by this Section 2, empty if there is none, with this stream; the second lead stays sound or not.
 fn lead(tables: &[u8], order: u8, count: u32, stream: Vec<u8>) -> Rhythm {
     let mut rhythm = two_leads();
     rhythm.tables = tables.to_vec();
@@ -215,7 +215,7 @@ fn beats(edges: &mut Edges) {
     edges.rhythm(row::CODE, "a beat cut short, and no zones", &rhythm);
 }
 
-/// Of several faults the first that is met: the beat's before the residual's, 12 before 13 at one value, 14 at the end.
+/// With several faults the first that is met counts: the beat's before the residual's, 12 before 13 at one value, 14 at the end.
 fn order_of_faults(edges: &mut Edges) {
     for (refusal, beat, residual, orders) in [
         (row::CODE, &[0; 4][..], &[32_767, 1, 0][..], [0, 1]),

@@ -5,7 +5,7 @@ use judge::row;
 use super::edge::{headed, two_leads, Edges};
 use crate::rhythm::{bits, remainder, switch, tables, value, Code, DEFAULT_TABLE};
 
-/// What breaks the rules of Section 2.
+/// The refusal where the rules of Section 2 are broken.
 const BROKEN: u8 = row::SECTION_2;
 
 /// Adds them all.
@@ -89,7 +89,7 @@ fn structure_counts(edges: &mut Edges) {
             format!("{count} structures"),
             &tables(&[codes.clone()]),
         );
-        // The same in a table that no stream comes to.
+        // The same in a table that no stream reaches.
         if count != 0 {
             let codes = vec![vec![value("0", 5)], other, codes];
             edges.tables(
@@ -195,7 +195,7 @@ fn prefixes(edges: &mut Edges) {
     edges.tables(0, "one prefix in two tables", &tables(&same));
 }
 
-/// Section 2 is judged wherever it stands, and before all that comes after it.
+/// Section 2 is judged wherever it is, and before all that comes after it.
 fn without_leads(edges: &mut Edges) {
     let mut draft = headed();
     draft.put(2, &DEFAULT_TABLE);

@@ -1,5 +1,5 @@
 //! Leads at the ends of the rules for encoding: as many samples, tables and structures as can be, tables that make a search
-//! slow, and streams about as long as can be. What each is to get is written here from the rules.
+//! slow, and streams about as long as can be. The right answers are written here from the rules.
 
 use judge::make::Rng;
 use judge::row;
@@ -12,11 +12,11 @@ const MOST: usize = scp::SAMPLES_MAX;
 
 /// A lead, what it is, and what encoding it gives.
 pub struct Extreme {
-    /// What it is.
+    /// A description in a few words.
     pub name: &'static str,
     /// The refusal, or 0.
     pub refusal: u8,
-    /// The bits of the stream, where they can be told by hand.
+    /// How many bits the stream has, where that can be worked out by hand.
     pub bits: Option<u32>,
     /// Section 2's data.
     pub section2: Vec<u8>,
@@ -27,7 +27,7 @@ pub struct Extreme {
 }
 
 impl Extreme {
-    /// What is to be encoded.
+    /// The lead to be encoded.
     pub fn job(&self) -> Job<'_> {
         Job {
             section2: &self.section2,

@@ -16,7 +16,7 @@ use crate::tally::{Call, Tally};
 /// A lead of more samples times tables is encoded with fewer lengths, as the judge's search takes its time.
 const LONG: usize = 3000;
 
-/// What is to be encoded.
+/// A lead to be encoded.
 #[derive(Clone, Copy, Debug)]
 pub struct Job<'a> {
     /// Section 2's data.
@@ -61,7 +61,7 @@ fn encode_with_every_length(job: Job, rng: &mut Rng, tally: &mut Tally) -> Resul
     })
 }
 
-/// Encodes with so many bytes of work space and of output.
+/// Encodes with this many bytes of work space and of output.
 pub fn encode(
     job: Job,
     (work_n, out_n): (usize, usize),
@@ -93,13 +93,13 @@ impl<'a> From<&'a ToEncode> for Job<'a> {
 }
 
 impl Job<'_> {
-    /// What the judge makes of it.
+    /// The judge's answer.
     pub fn judged(&self, work_n: usize, out_n: usize) -> Result<Coded, Refused> {
         judge::encode_lead(self.section2, self.samples, self.order, work_n, out_n)
     }
 
-    /// Has the library encode it with so many bytes of work space and of output, with guards around both, and holds what
-    /// comes back to what is expected: the answer, the stream, and the work space cleared or untouched.
+    /// Has the library encode it with this many bytes of work space and of output, with guards around both, and compares what
+    /// comes back with what is expected: the answer, the stream, and the work space cleared or untouched.
     pub fn by_library(
         &self,
         lengths: (usize, usize),

@@ -5,7 +5,7 @@ use std::fmt;
 
 use judge::Refused;
 
-/// What a call answers, told apart as far as the rules do.
+/// The answer of a call, as finely as the rules distinguish.
 #[derive(Clone, Copy, Debug, PartialEq, Eq, PartialOrd, Ord)]
 pub enum Answer {
     /// Written, with no search: there is no Section 2.
@@ -51,7 +51,7 @@ pub const ANSWERS: [Answer; 12] = [
 ];
 
 impl Answer {
-    /// What the judge answered. Without Section 2 no work space is needed, and 11 is for the output.
+    /// The judge's answer. Without Section 2 no work space is needed, and 11 is for the output.
     pub fn of(judged: &Result<Vec<u8>, Refused>, has_tables: bool) -> Answer {
         match judged {
             Ok(_) if has_tables => Answer::WrittenSearched,

@@ -19,13 +19,13 @@ const ROOM: usize = 2 * scp::RECORD_MAX;
 
 /// A job, what it is, and what writing it gives.
 pub struct Edge {
-    /// What it is.
+    /// A description in a few words.
     pub name: String,
     /// The refusal, or 0.
     pub refusal: u8,
     /// Whether the work space is zeros after it.
     pub cleared: bool,
-    /// What is to be written, and with how much room.
+    /// The job to be written, and with how much room.
     pub job: ToWrite,
 }
 
@@ -206,7 +206,7 @@ fn changed(refusal: u8, changes: &[(&str, Change)]) -> Vec<Edge> {
     made.collect()
 }
 
-/// So many leads of so many samples.
+/// Makes it `leads` leads of `count` samples.
 fn set(job: &mut ToWrite, leads: usize, count: usize) {
     job.firsts = vec![1; leads];
     job.counts = vec![count as u32; leads];
@@ -289,7 +289,7 @@ const SECTIONS: [(&str, u8, Change); 19] = [
     }),
 ];
 
-/// What is given for Sections 1 and 2.
+/// Edges of the data given for Sections 1 and 2.
 fn sections() -> Vec<Edge> {
     let made = |(name, refusal, change): (&str, u8, Change)| {
         let mut job = three(&DEFAULT_TABLE);
@@ -470,7 +470,7 @@ pub fn largest() -> Vec<Edge> {
     ]
 }
 
-/// Puts so many bytes of fields in front of the others: an even number.
+/// Puts this many bytes of fields in front of the others: an even number.
 fn fill(job: &mut ToWrite, mut bytes: usize) {
     let mut fields = Vec::new();
     while bytes > 0 {

@@ -79,7 +79,7 @@ fn write_with_every_length(
     })
 }
 
-/// Writes with so many bytes of work space and of output.
+/// Writes with this many bytes of work space and of output.
 pub fn write(
     job: &Writing,
     (work_n, out_n): (usize, usize),
@@ -92,8 +92,8 @@ pub fn write(
     Ok(())
 }
 
-/// Has the library write with so many bytes of work space and of output, with guards around both, and holds what comes back
-/// to what is expected: the answer, the record, and the work space cleared or untouched.
+/// Has the library write with this many bytes of work space and of output, with guards around both, and compares what comes
+/// back with what is expected: the answer, the record, and the work space cleared or untouched.
 pub fn by_library(
     job: &Writing,
     lengths: (usize, usize),

@@ -21,7 +21,7 @@ pub enum Coding {
     Own,
 }
 
-/// What there is of Sections 3 to 6.
+/// How much there is of Sections 3 to 6.
 #[derive(Clone, Copy, Debug, PartialEq, Eq)]
 pub enum Holds {
     /// Neither Section 3 nor 6.
@@ -34,7 +34,7 @@ pub enum Holds {
     Beat,
 }
 
-/// What is wanted of a draft; the rest is free.
+/// The wishes for a draft; the rest is free.
 #[derive(Clone, Copy, Debug, Default)]
 pub struct Wish {
     pub coding: Option<Coding>,

@@ -15,7 +15,7 @@ pub struct Section {
     /// The two versions and the reserved bytes, none of them judged.
     pub free: [u8; 8],
     pub data: Vec<u8>,
-    /// What lies between the section before and this one.
+    /// The bytes between the section before and this one.
     pub gap: Vec<u8>,
 }
 
@@ -25,11 +25,11 @@ pub struct Plan {
     /// The ID of each pointer, Section 0's too, and the index it has where its section is absent.
     pub pointers: Vec<(u16, u32)>,
     pub versions: [u8; 2],
-    /// What stands after the last pointer in Section 0: nothing, in a sound record.
+    /// The bytes after the last pointer in Section 0: none, in a sound record.
     pub after_pointers: Vec<u8>,
     /// In the order of the file.
     pub sections: Vec<Section>,
-    /// What lies after the last section.
+    /// The bytes after the last section.
     pub after: Vec<u8>,
 }
 
@@ -208,7 +208,7 @@ pub fn mend(record: &mut [u8]) {
     mend_check(record);
 }
 
-/// Makes the check over these bytes right; so it stands at the start of sections and of records.
+/// Makes the CRC over these bytes right; sections and records both start with it.
 pub fn mend_check(bytes: &mut [u8]) {
     if bytes.len() >= 2 {
         let check = crc(&bytes[2..]);

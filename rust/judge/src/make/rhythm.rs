@@ -14,7 +14,7 @@ pub struct MadeLead {
     pub samples: Vec<i16>,
 }
 
-/// What Sections 3 to 6 of a made record say.
+/// The content of Sections 3 to 6 of a made record.
 #[derive(Clone, Debug)]
 pub struct Rhythm {
     pub flags: u8,
@@ -193,7 +193,7 @@ fn stored(step: u16, interval: u16, bytes: [u8; 2], streams: &[Vec<u8>]) -> Vec<
 }
 
 impl Beat {
-    /// What each sample of a lead gets added, zone by zone.
+    /// The number that is added to each sample of a lead, zone by zone.
     pub fn added(&self, at: usize, first: u32, count: usize) -> Vec<i16> {
         let mut added = vec![0; count];
         let last = u64::from(first) + count as u64 - 1;

@@ -49,7 +49,7 @@ impl Rng {
         from[self.below(from.len())]
     }
 
-    /// One bit of so many.
+    /// One bit out of `bits`.
     pub fn bit(&mut self, bits: usize) -> u32 {
         1 << self.below(bits)
     }

@@ -1,4 +1,4 @@
-//! Section 1's data for made records: fields of all kinds around the four that must stand.
+//! Section 1's data for made records: fields of all kinds around the four that must be present.
 
 use super::rng::Rng;
 

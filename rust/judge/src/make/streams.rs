@@ -1,4 +1,4 @@
-//! Streams of random codes, at times put in the shortest form, with the samples they stand for.
+//! Streams of random codes, at times put in the shortest form, with the samples they decode to.
 
 use super::rng::Rng;
 use super::tables::alive;
@@ -39,7 +39,7 @@ pub fn draw(rng: &mut Rng, how: &Draw, added: &[i16]) -> Drawn {
     drawn
 }
 
-/// What the next value is added to.
+/// The numbers to which the next value is added.
 struct Next {
     before: i32,
     added: i32,
@@ -59,7 +59,7 @@ impl Next {
         Some(sample)
     }
 
-    /// A value of so many bits: any, the least or the most, one that brings the sum to an end of 16
+    /// A value of `bits` bits: any, the least or the most, one that brings the sum to a limit of 16
     /// bits, or a small one.
     fn draw(&self, rng: &mut Rng, bits: u32, calm: bool) -> i32 {
         let sum = self.before + self.added;
@@ -75,13 +75,13 @@ impl Next {
         clamped(value, bits)
     }
 
-    /// The value of so many bits that brings the sample nearest to 0.
+    /// The value of `bits` bits that brings the sample nearest to 0.
     fn toward_0(&self, bits: u32) -> i32 {
         clamped(-self.before, bits)
     }
 }
 
-/// The nearest value of so many bits.
+/// The nearest value of `bits` bits.
 fn clamped(value: i32, bits: u32) -> i32 {
     let half = 1i32 << (bits - 1);
     value.clamp(-half, half - 1)

@@ -85,7 +85,7 @@ fn table(rng: &mut Rng, tables: usize, kind: Kind) -> Vec<Row> {
     rows
 }
 
-/// So many prefixes, with their lengths and the first bit on top, of which none begins another:
+/// `count` prefixes, with their lengths and the first bit on top, of which none begins another:
 /// leaves of a tree grown by splitting, some of them left out.
 fn prefixes(rng: &mut Rng, count: usize) -> Vec<(u32, u32)> {
     let deep = rng.one_in(4);

@@ -182,7 +182,7 @@ impl ToWrite {
         }
     }
 
-    /// So many leads of one sample.
+    /// Makes it `number` leads of one sample.
     fn set_leads(&mut self, number: usize) {
         self.firsts = vec![1; number];
         self.counts = vec![1; number];
@@ -190,7 +190,7 @@ impl ToWrite {
         self.samples = vec![0; number];
     }
 
-    /// One lead of so many samples.
+    /// Makes it one lead of `count` samples.
     fn set_one_lead(&mut self, count: usize) {
         self.set_leads(1);
         self.counts[0] = count as u32;

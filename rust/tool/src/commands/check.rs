@@ -22,7 +22,7 @@ use crate::tally::Tally;
 use crate::text::reason;
 use crate::verdict::{Room, Verdict};
 
-/// What a terminal shows until the files are counted, and the bar that it shows afterwards.
+/// The line that a terminal shows until the files are counted, and the bar that it shows afterwards.
 const COUNTING: &str = "{spinner} files so far: {pos}";
 const BAR: &str = "{bar:40} {pos} of {len} files, {eta} left";
 

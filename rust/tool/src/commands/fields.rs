@@ -26,7 +26,7 @@ const COLUMNS: [Column; 5] = [
     words("Text"),
 ];
 
-/// How many bytes stand in a line.
+/// How many bytes a line shows.
 const BYTES_A_LINE: usize = 16;
 
 /// Shows the fields of a file, as a table or as JSON.
@@ -123,8 +123,8 @@ fn texts(tag: u8, bytes: &[u8]) -> Vec<String> {
     texts
 }
 
-/// Text in quotes, every byte of it to be seen, as it stands beside the lines of its bytes. A character stands where its
-/// first byte does.
+/// Text in quotes, every byte of it to be seen, as it is shown beside the lines of its bytes. A character is where its
+/// first byte is.
 fn quoted(text: &[u8]) -> Vec<String> {
     let mut lines = vec![String::new(); text.len().div_ceil(BYTES_A_LINE)];
     let mut at = 0;

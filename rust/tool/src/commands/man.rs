@@ -120,7 +120,7 @@ impl Page {
         let about = command.get_about().map(ToString::to_string);
         let long = command.get_long_about().map(ToString::to_string);
         self.text(&long.or(about).unwrap_or_default());
-        // every command has this one, and it is told of once, of the tool
+        // every command has this one, and the page describes it once, for the tool
         let arguments = command.get_arguments();
         self.arguments(arguments.filter(|argument| argument.get_long() != Some("help")));
         let end = command.get_after_help().map(ToString::to_string);

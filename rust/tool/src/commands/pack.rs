@@ -316,7 +316,7 @@ impl<'a> Parsed<'a> {
         losses
     }
 
-    /// What the packed record is made of: all leads read.
+    /// The content of the packed record: all leads read.
     fn making(&self) -> Result<Making, Placed> {
         let entry = self.entries[0];
         let mut making = Making {
@@ -337,7 +337,7 @@ impl<'a> Parsed<'a> {
         Ok(making)
     }
 
-    /// What the packed record is made of, and the record.
+    /// The content of the packed record, and the record.
     fn packed(&self) -> Result<(Making, Vec<u8>), Placed> {
         let making = self.making()?;
         let packed = scp::written(&making.job()).map_err(|refusal| (1, refusal))?;

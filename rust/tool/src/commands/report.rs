@@ -104,7 +104,7 @@ impl Read {
     }
 }
 
-/// Asks the rules one by one. Of a record that is too long not all bytes were read, and the first alone is asked.
+/// Asks the rules one by one. A record that is too long was not read whole, and the first rule alone is asked.
 fn answers(input: &Input) -> Vec<Answer> {
     let last = match input.bytes.len() > scp::RECORD_MAX {
         true => Refusal::LENGTH,

@@ -16,7 +16,7 @@ use crate::status::Status;
 use crate::text::how_many;
 use crate::verdict::Room;
 
-/// How many samples stand in a line of text.
+/// How many samples a line of text shows.
 const SAMPLES_A_LINE: usize = 10;
 
 /// The form that samples are shown in.
@@ -92,7 +92,7 @@ pub fn run(file: &Path, place: Option<usize>, form: Form, output: &mut Output) -
     }
 }
 
-/// Reads the lead at a place, or all of them. What refuses the record refuses all; 12 to 14 refuse one lead. The library
+/// Reads the lead at a place, or all of them. If the record is refused, all are; 12 to 14 refuse one lead. The library
 /// judges the whole record whenever it is asked for a lead, so that each is asked for once.
 fn read(record: &[u8], place: Option<usize>) -> Result<Asked, Refusal> {
     let all = scp::lead(record, place.unwrap_or(1))?.leads;

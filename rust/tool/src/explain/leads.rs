@@ -34,7 +34,7 @@ pub fn words(finding: &Finding, fault: &LeadFault) -> String {
     }
 }
 
-/// What is wrong with a zone of the reference beat.
+/// Says what is wrong with a zone of the reference beat.
 fn zone(fault: &ZoneFault) -> String {
     match *fault {
         ZoneFault::OfType {

@@ -1,6 +1,6 @@
-//! What a refused record or job has that its rule does not allow, for a person to read.
+//! Explains what a refused record or job has that its rule does not allow, for a person to read.
 //!
-//! It explains an answer of the proved library and decides nothing. What is found is the word of the independent
+//! It explains an answer of the proved library and decides nothing. The findings are those of the independent
 //! implementation (`judge`), which is not proved; the words for it are made here. Bytes of a record count from 1, as a
 //! pointer's index does.
 
@@ -21,10 +21,10 @@ use crate::names;
 use crate::text;
 use subject::Subject;
 
-/// What is said of a refusal that no record and no job can be the reason of.
+/// The words for a refusal that no record and no job can be the reason of.
 const ROOM: &str = "the tool lent too small a buffer, which is a fault of its own";
 
-/// What is looked at: a record, how long it is, and the place of the lead that was asked for.
+/// The input that is looked at: a record, how long it is, and the place of the lead that was asked for.
 pub struct Looked<'a> {
     /// The bytes, of a record that is too long only as many as show it.
     pub record: &'a [u8],
@@ -35,7 +35,7 @@ pub struct Looked<'a> {
 }
 
 impl<'a> Looked<'a> {
-    /// What was read, where the lead at a place was asked for.
+    /// The input that was read, where the lead at a place was asked for.
     pub fn at(input: &'a Input, place: usize) -> Looked<'a> {
         Looked {
             record: &input.bytes,
@@ -45,13 +45,13 @@ impl<'a> Looked<'a> {
     }
 }
 
-/// What was found in a record that was refused, a line for each thing; at least one.
+/// The findings in a record that was refused, a line for each; at least one.
 pub fn found(looked: &Looked, refusal: Refusal) -> Vec<String> {
     let found = judge::lead_findings(looked.record, looked.place);
     explained(refusal, &found, Subject::Record(looked.size))
 }
 
-/// What was found in a job that was refused, a line for each thing; at least one.
+/// The findings in a job that was refused, a line for each; at least one.
 pub fn found_in_job(making: &Making, refusal: Refusal) -> Vec<String> {
     let found = judge::job_findings(&judge::Writing {
         section1: &making.section1,
@@ -69,7 +69,7 @@ pub fn found_in_job(making: &Making, refusal: Refusal) -> Vec<String> {
     explained(refusal, &found, Subject::Job(making))
 }
 
-/// What is to be seen in a record that breaks a refusal's rule, asked alone; it may be nothing.
+/// The findings in a record for a refusal's rule, asked alone; there may be none.
 pub fn seen(looked: &Looked, refusal: Refusal) -> Vec<String> {
     let found = judge::findings(looked.record, refusal.number());
     lines(&found, Subject::Record(looked.size))
@@ -94,7 +94,7 @@ fn explained(refusal: Refusal, found: &[Finding], subject: Subject) -> Vec<Strin
     lines
 }
 
-/// What is said where the library and the independent implementation answer different numbers, 0 being accepted.
+/// The words for where the library and the independent implementation answer different numbers, 0 being accepted.
 fn disagreement(library: u8, judged: u8) -> Option<String> {
     let answer = match judged {
         0 => "accepts it".to_string(),
@@ -112,7 +112,7 @@ fn lines(found: &[Finding], subject: Subject) -> Vec<String> {
     found.iter().map(|finding| line(finding, subject)).collect()
 }
 
-/// A finding as a line: the part it is in, what is wrong, and the byte of the record where it stands.
+/// A finding as a line: the part it is in, what is wrong, and the byte of the record where it is.
 fn line(finding: &Finding, subject: Subject) -> String {
     let words = parted(finding, words(finding, subject));
     match (subject, finding.offset) {
@@ -135,7 +135,7 @@ fn parted(finding: &Finding, words: String) -> String {
     }
 }
 
-/// What is wrong, with the part it is in before it.
+/// Says what is wrong, with the part it is in before it.
 fn words(finding: &Finding, subject: Subject) -> String {
     let words = match &finding.fault {
         Fault::Number {

@@ -78,7 +78,7 @@ fn plain(finding: &Finding, what: What) -> String {
     }
 }
 
-/// What a number is not.
+/// Says which bounds a number is outside of.
 fn bounds(expected: &RangeInclusive<i64>) -> String {
     match (*expected.start(), *expected.end()) {
         (least, most) if least == most => format!("not {least}"),

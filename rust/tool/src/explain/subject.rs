@@ -5,7 +5,7 @@ use judge::{Finding, Part};
 use crate::input::Size;
 use crate::making::Making;
 
-/// What findings are about: a record of this size, or a job.
+/// The subject of findings: a record of this size, or a job.
 #[derive(Clone, Copy)]
 pub enum Subject<'a> {
     Record(Size),

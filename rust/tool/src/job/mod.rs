@@ -1,6 +1,6 @@
-//! A job in JSON, from which a record is made: docs/JOBS.md says what stands in it.
+//! A job in JSON, from which a record is made: docs/JOBS.md says what is in it.
 //!
-//! What a job says wrongly is told with its line and column. Whether the record may be made is not judged here: that is the
+//! A mistake in a job is reported with its line and column. Whether the record may be made is not judged here: that is the
 //! library's word.
 
 mod number;
@@ -25,7 +25,7 @@ const JOB_MAX: u64 = 16 << 20;
 /// The tag of the end mark.
 const END: u8 = 255;
 
-/// What stands in a job.
+/// The content of a job.
 #[derive(Deserialize)]
 #[serde(deny_unknown_fields)]
 struct Job {
@@ -40,7 +40,7 @@ struct Job {
     samples: PathBuf,
 }
 
-/// Reads a job and the samples beside it. What is wrong, with the name of the file, if it cannot be understood.
+/// Reads a job and the samples beside it. Says what is wrong, with the name of the file, if it cannot be understood.
 pub fn read(file: &Path) -> Result<Making, String> {
     let text = read_text(file).map_err(|error| told(file, &reason(&error)))?;
     let job: Job =
@@ -71,7 +71,7 @@ fn read_text(file: &Path) -> io::Result<Vec<u8>> {
     }
 }
 
-/// What is wrong, and where.
+/// Says what is wrong, and where.
 fn with_place(error: &serde_json::Error) -> String {
     let (line, column) = (error.line(), error.column());
     let words = error.to_string();
@@ -92,7 +92,7 @@ impl Job {
         (1..).zip(&self.leads).map(column).collect()
     }
 
-    /// What the record is to be made of. The samples' file and the job must agree on first samples.
+    /// The content that the record is to be made of. The samples' file and the job must agree on first samples.
     fn making(&self, trace: &Trace) -> Result<Making, String> {
         let mut making = Making {
             section1: section_1(&self.fields),
@@ -181,7 +181,7 @@ impl TryFrom<AnyField> for Field {
     }
 }
 
-/// The bytes of a text, with a NUL after them. What is beyond ASCII has no one way to be stored.
+/// The bytes of a text, with a NUL after them. Letters beyond ASCII have no one way to be stored.
 fn text_bytes(text: &str) -> Result<Vec<u8>, String> {
     if let Some(letter) = text.chars().find(|letter| !letter.is_ascii()) {
         let words = "is not ASCII: give the field's bytes in hex";

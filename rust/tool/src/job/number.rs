@@ -5,7 +5,7 @@ use std::marker::PhantomData;
 
 use serde::de::{Deserialize, Deserializer, Error, Visitor};
 
-/// A number of a type; one that is outside it is told as such.
+/// A number of a type; one that is outside it is reported as such.
 #[derive(Clone, Copy, Debug, PartialEq, Eq)]
 pub struct Number<T>(pub T);
 
@@ -33,7 +33,7 @@ impl<'de, T: Bounded> Deserialize<'de> for Number<T> {
     }
 }
 
-/// What looks at the number that is there.
+/// The visitor that looks at the number that is there.
 struct Whole<T>(PhantomData<T>);
 
 impl<T: Bounded> Whole<T> {

@@ -1,4 +1,4 @@
-//! Objects that are looked at once more when they are read, so that what is wrong with one is told where it ends.
+//! Objects that are looked at once more when they are read, so that a mistake in one is reported where it ends.
 
 use std::fmt;
 use std::marker::PhantomData;

@@ -119,7 +119,7 @@ fn check_heads(row: &StringRecord, heads: &[[String; 2]]) -> Result<(), String> 
     Ok(())
 }
 
-/// What is wrong in a column, from 1.
+/// Says what is wrong in a column, from 1.
 fn in_column(column: usize, words: String) -> String {
     format!("column {column}: {words}")
 }
@@ -181,7 +181,7 @@ mod tests {
         assert_eq!(columns[0], Column::default());
     }
 
-    /// What is wrong with a table, and what is said of it.
+    /// Mistakes in a table, and what is said of each.
     const WRONG: [(&str, &str); 13] = [
         ("", "it is empty"),
         (

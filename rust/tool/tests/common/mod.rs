@@ -13,7 +13,7 @@ use std::process::{Command, Output, Stdio};
 
 use folder::Folder;
 
-/// What ends an answer in which a refusal is explained.
+/// The end of an answer in which a refusal is explained.
 pub const NOTE: &str = "The proved library decided; the explanation is not proved.";
 
 /// The folder of sample records.

@@ -14,7 +14,7 @@ impl Schema {
         Schema(serde_json::from_str(text).unwrap())
     }
 
-    /// What is wrong with a value, if anything is.
+    /// Says what is wrong with a value, if anything is.
     pub fn check(&self, value: &Value) -> Result<(), String> {
         self.ask(&self.0, value)
     }

@@ -1,4 +1,4 @@
-//! What was special about the sets of tables and leads that were tried.
+//! Counts what was special about the sets of tables and leads that were tried.
 
 use std::collections::BTreeSet;
 use std::fmt;

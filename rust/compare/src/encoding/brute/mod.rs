@@ -21,13 +21,13 @@ use small::{samples_of, small_tables, small_values};
 
 /// Leads to encode by each set of tables.
 const LEADS: usize = 2;
-/// All streams of up to so many bits are counted through.
+/// All streams of up to this many bits are tried, one after another.
 const COUNTED: usize = 10;
-/// Once in [`FAR`] sets, all of up to so many.
+/// Once in [`FAR`] sets, all of up to this many.
 const COUNTED_FAR: usize = 15;
 const FAR: u64 = 64;
 
-/// Has the library encode leads by so many sets of tables that the seed fixes, and holds each answer to all streams.
+/// Has the library encode leads by this many sets of tables that the seed fixes, and compares each answer with all streams.
 pub fn run(seed: u64, sets: u64) -> Result<Counts, Difference> {
     let mut counts = Counts::default();
     for number in 0..sets {
@@ -109,7 +109,7 @@ fn encode(
     }
 }
 
-/// The first stream of up to so many bits that the judge reads to these values with nothing left, shorter ones first and
+/// The first stream of up to `most` bits that the judge reads to these values with nothing left, shorter ones first and
 /// then smaller ones: its bits, and the stream as a number. Each stream is read with zeros after it, and is the one if all
 /// of them are left.
 fn first_of_all(

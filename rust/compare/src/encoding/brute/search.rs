@@ -23,7 +23,7 @@ impl Found {
     }
 }
 
-/// Where a reader stands after some bits: the values it has, its table, and the bits of a code that is not whole yet.
+/// The state of a reader after some bits: the values it has, its table, and the bits of a code that is not whole yet.
 #[derive(Clone, Copy, Debug, PartialEq, Eq, PartialOrd, Ord)]
 struct State {
     values: usize,
@@ -40,7 +40,7 @@ struct Streams {
     ways: u64,
 }
 
-/// What a bit does to a reader.
+/// The effect of a bit on a reader.
 enum Step {
     /// It goes on, with a switch just taken or not.
     On(State, bool),
@@ -136,7 +136,7 @@ impl<'a> Search<'a> {
         next
     }
 
-    /// What a reader makes of the next bit: the reading rule, bit by bit.
+    /// The effect of the next bit on a reader: the reading rule, bit by bit.
     fn step(&self, state: State, bit: u32) -> Step {
         let bits = state.bits + 1;
         let begun = state.begun << 1 | bit;
@@ -173,7 +173,7 @@ impl<'a> Search<'a> {
         Step::Dead
     }
 
-    /// What a reader makes of a whole code, with these bits after its prefix.
+    /// The effect of a whole code on a reader, with these bits after its prefix.
     fn whole(&self, state: State, code: &Code, after: &str) -> Step {
         let fresh = State {
             bits: 0,

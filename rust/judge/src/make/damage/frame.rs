@@ -126,7 +126,7 @@ fn break_order(rng: &mut Rng, pointers: &mut Vec<(u16, u32)>) {
     }
 }
 
-/// A section that is hit: where it lies and where its pointer stands.
+/// A section that is hit: where it is and where its pointer is.
 struct Hit {
     place: Range<usize>,
     id: u16,

@@ -4,7 +4,7 @@ use crate::make::draft::Draft;
 use crate::make::rng::Rng;
 use crate::make::section_1::{data, fields, identifier, open_data, Field};
 
-/// Tags that must stand exactly once.
+/// Tags that must occur exactly once.
 const ONCE: [u8; 4] = [2, 14, 25, 26];
 
 pub fn damage(rng: &mut Rng, draft: &mut Draft) {

@@ -88,7 +88,7 @@ fn coded(tables: Option<&Tables>, values: &[i32]) -> Vec<u8> {
     put.bytes()
 }
 
-/// Values that come to an end of 16 bits and then go one or more beyond it.
+/// Values that reach a limit of 16 bits and then go one or more beyond it.
 fn overflowing(rng: &mut Rng, order: u8, count: usize) -> Vec<i32> {
     let end: i32 = rng.pick(&[32_767, -32_768]);
     let near = end - end.signum() * rng.small(3) as i32;
