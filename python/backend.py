@@ -71,7 +71,7 @@ RULES = {{
 def build_wheel(
     wheel_directory: str, config_settings: Optional[dict[str, Any]] = None, metadata_directory: Optional[str] = None
 ) -> str:
-    """What pip calls: makes the wheel in a folder, and answers its name."""
+    """pip calls this: it makes the wheel in a folder, and answers its name."""
     if platform.machine() != "x86_64":
         raise SystemExit(f"the library is for x86-64, and this machine is {platform.machine()}")
     return make_wheel(Path(wheel_directory))
@@ -113,7 +113,7 @@ def rules() -> str:
 
 
 def listed(files: dict[str, bytes]) -> str:
-    """The wheel's list of its files, with their hashes and lengths; the list itself stands there without."""
+    """The wheel's list of its files, with their hashes and lengths; the list itself has neither."""
     lines = []
     for path, content in files.items():
         digest = base64.urlsafe_b64encode(hashlib.sha256(content).digest()).decode().rstrip("=")

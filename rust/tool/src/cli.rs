@@ -6,7 +6,7 @@ use clap::{Parser, Subcommand};
 use clap_complete::Shell;
 use scp::Refusal;
 
-/// What the tool's help ends with, and that of a command for many records.
+/// The end of the tool's help, and of the help of a command for many records.
 const STATUS: &str = "\
 Exit status:
   0  every file was accepted
@@ -18,7 +18,7 @@ Exit status:
 A FILE of - is standard input. A file that is refused or cannot be read never
 stops the others.";
 
-/// What the help of a command for one record ends with.
+/// The end of the help of a command for one record.
 const ONE: &str = "\
 Exit status:
   0  the record was accepted
@@ -29,13 +29,13 @@ Exit status:
 
 A FILE of - is standard input.";
 
-/// What the help of a command ends with that reads no record.
+/// The end of the help of a command that reads no record.
 const NONE: &str = "\
 Exit status:
   0  it was written
   2  it could not be written, or the command line is not understood";
 
-/// What the help of a command ends with that writes a record.
+/// The end of the help of a command that writes a record.
 const WRITING: &str = "\
 OUT is written whole or not at all: it is put beside under another name, synced,
 read back and compared, and only then takes its name. A file that is there is
@@ -49,7 +49,7 @@ Exit status:
   2  the work could not be done: a file could not be read or written, the job
      is not understood, or the command line is not";
 
-/// What the tool is, at the head of its help.
+/// The head of the help: the tool in a sentence.
 const ABOUT: &str = "\
 Opens, checks, shows, packs and writes SCP-ECG records.
 
