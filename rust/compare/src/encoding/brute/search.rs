@@ -141,17 +141,18 @@ impl<'a> Search<'a> {
         let bits = state.bits + 1;
         let begun = state.begun << 1 | bit;
         let read = format!("{begun:0bits$b}");
+        let within = Step::On(
+            State {
+                bits,
+                begun,
+                ..state
+            },
+            false,
+        );
         for code in &self.tables[state.table - 1] {
             if code.prefix.len() > bits {
                 if code.prefix.starts_with(&read) {
-                    return Step::On(
-                        State {
-                            bits,
-                            begun,
-                            ..state
-                        },
-                        false,
-                    );
+                    return within;
                 }
                 continue;
             }
@@ -159,14 +160,7 @@ impl<'a> Search<'a> {
                 continue;
             };
             if after.len() < usize::from(code.remainder) {
-                return Step::On(
-                    State {
-                        bits,
-                        begun,
-                        ..state
-                    },
-                    false,
-                );
+                return within;
             }
             return self.whole(state, code, after);
         }
