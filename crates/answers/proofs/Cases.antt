@@ -1,6 +1,6 @@
 -- A refusal that is 15, 16, 11 or 0 by four cases that exclude each other is each of them exactly if its case holds. Assumes nothing.
 use Prim.Native.Nat.{ℕ}
-use mathlib.Core.Path.{_≡_, sym, _∙_}
+use mathlib.Core.Path.{_≡_}
 use mathlib.Core.Logic.{_↔_}
 use native.Mathlib.Omega.{arith}
 

@@ -8,7 +8,6 @@ use native.Mathlib.Omega.{arith}
 use borrow.Author.Tests.{ltb-true}
 use lib.Dec.{eqb, ltb}
 use lib.ListN.{length, take, length-append}
-use Rattle.wire.specs.RuleWords.{every}
 use Rattle.wire.proofs.Places.{Stands, stands-inner, stands-first, stands-behind, stands-whole, stands-at}
 use Rattle.layout.specs.Layout.{pointerBytes}
 use Rattle.layout.proofs.Laws.{length-pointerBytes}

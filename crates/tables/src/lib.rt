@@ -1,11 +1,11 @@
 // Section 2's data judged whole (01, Code tables; refusal 7), and the default table.
 ghost use mathlib.Core.Path.{_≡_};
-ghost use Prim.Native.Nat.{_+_, _*_, _^_, _<_, _≤_};
-ghost use lib.ListN.{length, getD};
+ghost use Prim.Native.Nat.{_+_, _*_, _<_, _≤_};
+ghost use lib.ListN.{getD};
 ghost use Rattle.tables.specs.Structures.{structureAt, structuresAt, modeRight, structureRight, apart, prefixFree, noStructure};
 ghost use Rattle.tables.specs.Default.{defaultTable};
 ghost use Rattle.wire.specs.RuleWords.{every};
-ghost use Rattle.tables.specs.Section2.{isDefault, tableCount, tableAt, afterTable, tablesFrom, afterTables, tableRight, section2Right};
+ghost use Rattle.tables.specs.Section2.{isDefault, tableAt, afterTable, tablesFrom, afterTables, tableRight, section2Right};
 
 // A code structure; the base value without its sign.
 pub struct Structure {
