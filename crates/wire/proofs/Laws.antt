@@ -61,16 +61,6 @@ put-next p b l k m h =
 
 -- ---- the check
 
--- the first of the bits still to come
-pub bits-more : (n k x : ℕ) → k < n → crcBits (n - k) x ≡ crcBits (n - (k + 1)) (crcBit x)
-unfolding crcBits
-bits-more n k x h = let e : n - k ≡ suc (n - (k + 1)) = omega arith in ap (λ (j : ℕ). crcBits j x) e
-
--- no bit is left
-pub bits-done : (n k x : ℕ) → n ≤ k → crcBits (n - k) x ≡ x
-unfolding crcBits
-bits-done n k x h = let e : n - k ≡ 0 = omega arith in ap (λ (j : ℕ). crcBits j x) e
-
 -- the first of the bytes still to come
 pub from-more : (c : ℕ) (s : List ℕ) (i : ℕ) → i < length s → crcFrom c (drop i s) ≡ crcFrom (crcByte c (getD s i 0)) (drop (i + 1) s)
 unfolding crcFrom
@@ -82,7 +72,7 @@ unfolding crcFrom
 from-done c s i h = ap (crcFrom c) (drop-of-length-le s h)
 
 -- the register has 16 bits after a bit, after several, and after bytes
-bit-small : (c : ℕ) → crcBit c < 65536
+pub bit-small : (c : ℕ) → crcBit c < 65536
 unfolding crcBit
 bit-small c = go (ltb c 32768)
   where
@@ -90,7 +80,7 @@ bit-small c = go (ltb c 32768)
     go true = omega arith
     go false = xor-lt 16 (c % 32768 * 2) 4129 (omega arith) (omega arith)
 
-bits-small : (k c : ℕ) → c < 65536 → crcBits k c < 65536
+pub bits-small : (k c : ℕ) → c < 65536 → crcBits k c < 65536
 unfolding crcBits
 bits-small zero c h = h
 bits-small (suc k) c h = bits-small k (crcBit c) (bit-small c)
