@@ -85,6 +85,10 @@ unfolding crcBits
 bits-small zero c h = h
 bits-small (suc k) c h = bits-small k (crcBit c) (bit-small c)
 
+-- a byte added to the register's upper half leaves it one
+pub mixed-small : (c b : ℕ) → c < 65536 → b < 256 → bitXor c (b * 256) < 65536
+mixed-small c b h k = xor-lt 16 c (b * 256) h (omega arith)
+
 from-small : (s : List ℕ) (c : ℕ) → c < 65536 → crcFrom c s < 65536
 unfolding crcFrom crcByte crcBits
 from-small [] c h = h

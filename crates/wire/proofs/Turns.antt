@@ -13,7 +13,7 @@ use Rattle.wire.proofs.Xor.{xor-assoc}
 use Rattle.wire.proofs.Powers.{bits-after, power64}
 use Rattle.wire.proofs.WordLaws.{fed-small, fed-from, fed-with}
 
--- ---- the polynomial's 64th power: x^1024 is x^768 + x^320 + 1, which are 16, 12 and 5 words
+-- ---- the polynomial's 64th power: x^1024 is x^768 + x^320 + 1, which are 16, 12, 5 and 0 words
 
 -- v is added to the word that stands behind k others
 unfoldable pub addTo : ℕ → ℕ → List ℕ → List ℕ
@@ -99,8 +99,8 @@ pub none : (s : List ℕ) (i : ℕ) → Stand s i i []
 unfolding fedAll
 none s i = record { is = λ c. refl }
 
--- and a word before them, from i up to j
-pub before : (i j w : ℕ) {s : List ℕ} {k : ℕ} {ws : List ℕ} → ((c : ℕ) → crcFrom c (drop i s) ≡ crcFrom (fed 8 c w) (drop (i + 8) s)) → i + 8 ≡ j → Stand s j k ws
+-- and so does a word ahead of them, from i up to j, with them
+pub ahead : (i j w : ℕ) {s : List ℕ} {k : ℕ} {ws : List ℕ} → ((c : ℕ) → crcFrom c (drop i s) ≡ crcFrom (fed 8 c w) (drop (i + 8) s)) → i + 8 ≡ j → Stand s j k ws
     → Stand s i k (w ∷ ws)
 unfolding fedAll
-before i j w {s} p e q = record { is = λ c. p c ∙ ap (λ (m : ℕ). crcFrom (fed 8 c w) (drop m s)) e ∙ q .is (fed 8 c w) }
+ahead i j w {s} p e q = record { is = λ c. p c ∙ ap (λ (m : ℕ). crcFrom (fed 8 c w) (drop m s)) e ∙ q .is (fed 8 c w) }

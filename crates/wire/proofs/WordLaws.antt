@@ -10,14 +10,11 @@ use lib.Bits.{bitXor, xor-zero-l, xor-zero-r, xor-comm, xor-lt, xor-shr, xor-mod
 use Rattle.wire.specs.RuleWords.{each, allIn}
 use Rattle.wire.specs.Check.{crcBit, crcBits, crcByte, crcFrom}
 use Rattle.wire.specs.InnerCheck.{fed, quotient}
-use Rattle.wire.proofs.Laws.{bits-small, from-more}
+use Rattle.wire.proofs.Laws.{bits-small, mixed-small, from-more}
 use Rattle.wire.proofs.Xor.{xor-up, xor-swap, Linear, self, _⊕_, down, low, up, same-at, agree}
 use Rattle.wire.proofs.Powers.{bits-linear, bits-after, onward}
 
 -- ---- bytes of a word
-
-mixed-small : (c b : ℕ) → c < 65536 → b < 256 → bitXor c (b * 256) < 65536
-mixed-small c b h k = xor-lt 16 c (b * 256) h (omega arith)
 
 pub fed-small : (n c w : ℕ) → c < 65536 → fed n c w < 65536
 unfolding fed crcByte
@@ -32,7 +29,7 @@ byte-linear c d x y hc hd hx hy =
     ∙ bits-linear 8 (bitXor c (x * 256)) (bitXor d (y * 256)) (mixed-small c x hc hx) (mixed-small d y hd hy)
 
 -- the register is linear in itself and the word
-pub fed-linear : (n c d w v : ℕ) → c < 65536 → d < 65536 → fed n (bitXor c d) (bitXor w v) ≡ bitXor (fed n c w) (fed n d v)
+fed-linear : (n c d w v : ℕ) → c < 65536 → d < 65536 → fed n (bitXor c d) (bitXor w v) ≡ bitXor (fed n c w) (fed n d v)
 unfolding fed
 fed-linear zero c d w v h k = refl
 fed-linear (suc n) c d w v h k =
@@ -89,27 +86,27 @@ next-word w v h =
     ∙ sym (fed-from 0 (fed 8 0 w) v (omega arith) r)
     ∙ ap (λ (x : ℕ). fed 8 x v) (xor-zero-l (fed 8 0 w))
 
--- what is left of a word by the polynomial: its quotient by the 4th power, times the 2nd and the 1st, is that by the polynomial, whose lowest
--- digits make up what is left
-unfoldable pub left : ℕ → ℕ
-left w =
+-- what the polynomial leaves of a word and 16 bits 0: the quotient by the 4th power, times the 2nd and the 1st, is that by the polynomial itself,
+-- and the remainder is the lowest 16 digits of its product with the polynomial
+unfoldable pub remainder : ℕ → ℕ
+remainder w =
     let q = bitXor (bitXor (bitXor (quotient w) (quotient w / 2 ^ 8)) (quotient w / 2 ^ 22)) (quotient w / 2 ^ 32) in
     let r = bitXor (bitXor (bitXor q (q / 2 ^ 4)) (q / 2 ^ 11)) (q / 2 ^ 16) in
     bitXor (bitXor r (r * 2 ^ 5 % 2 ^ 64)) (r * 2 ^ 12 % 2 ^ 64) % 2 ^ 16
 
-left-linear : Linear left
-unfolding left
-left-linear =
+remainder-linear : Linear remainder
+unfolding remainder
+remainder-linear =
     let q = quotient-linear ⊕ down 8 quotient-linear ⊕ down 22 quotient-linear ⊕ down 32 quotient-linear in
     let r = q ⊕ down 4 q ⊕ down 11 q ⊕ down 16 q in
     low 16 (r ⊕ low 64 (up 5 r) ⊕ low 64 (up 12 r))
 
-left-passes : allIn 0 64 (same-at left-linear (leaves self)) ≡ true
-unfolding allIn each same-at left fed quotient crcByte crcBits crcBit
-left-passes = refl
+remainder-passes : allIn 0 64 (same-at remainder-linear (leaves self)) ≡ true
+unfolding allIn each same-at remainder fed quotient crcByte crcBits crcBit
+remainder-passes = refl
 
-pub left-word : (w : ℕ) → w < 2 ^ 64 → left w ≡ fed 8 0 w
-left-word w h = agree left-linear (leaves self) 64 left-passes w h
+pub remainder-word : (w : ℕ) → w < 2 ^ 64 → remainder w ≡ fed 8 0 w
+remainder-word w h = agree remainder-linear (leaves self) 64 remainder-passes w h
 
 -- ---- eight bytes of a list
 

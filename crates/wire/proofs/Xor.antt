@@ -3,7 +3,7 @@
 use mathlib.Core.Path.{_≡_, refl, sym, ap, ap₂, _∙_}
 use mathlib.Core.Bool.{Bool, true}
 use Prim.Native.Nat.{ℕ, zero, suc, _+_, _*_, _/_, _%_, _-_, _^_, _<_, _≤_}
-use native.Mathlib.Nat.{mod-lt, add-zero, pow-suc, le-of-suc-le-suc, not-suc-le-zero, zero-lt-suc}
+use native.Mathlib.Nat.{add-zero, pow-suc}
 use native.Mathlib.Omega.{arith}
 use native.Mathlib.Decide.{decLt}
 use lib.Arith.{bin-ind}
@@ -16,22 +16,19 @@ use Rattle.wire.proofs.Laws.{all-at}
 
 -- ---- sums
 
-two-pos : 0 < 2
-two-pos = zero-lt-suc 1
-
 differ-lt : (x y : ℕ) → x < 2 → y < 2 → differ x y < 2
 differ-lt zero y h k = k
 differ-lt (suc zero) zero h k = h
-differ-lt (suc zero) (suc zero) h k = two-pos
-differ-lt (suc zero) (suc (suc y)) h k = absurd (not-suc-le-zero (le-of-suc-le-suc (le-of-suc-le-suc k)))
-differ-lt (suc (suc x)) y h k = absurd (not-suc-le-zero (le-of-suc-le-suc (le-of-suc-le-suc h)))
+differ-lt (suc zero) (suc zero) h k = omega arith
+differ-lt (suc zero) (suc (suc y)) h k = absurd (omega arith)
+differ-lt (suc (suc x)) y h k = absurd (omega arith)
 
 differ-assoc : (x y z : ℕ) → x < 2 → y < 2 → z < 2 → differ (differ x y) z ≡ differ x (differ y z)
 differ-assoc zero y z h k l = refl
-differ-assoc (suc (suc x)) y z h k l = absurd (not-suc-le-zero (le-of-suc-le-suc (le-of-suc-le-suc h)))
-differ-assoc (suc zero) (suc (suc y)) z h k l = absurd (not-suc-le-zero (le-of-suc-le-suc (le-of-suc-le-suc k)))
+differ-assoc (suc (suc x)) y z h k l = absurd (omega arith)
+differ-assoc (suc zero) (suc (suc y)) z h k l = absurd (omega arith)
 differ-assoc (suc zero) zero z h k l = refl
-differ-assoc (suc zero) (suc zero) (suc (suc z)) h k l = absurd (not-suc-le-zero (le-of-suc-le-suc (le-of-suc-le-suc l)))
+differ-assoc (suc zero) (suc zero) (suc (suc z)) h k l = absurd (omega arith)
 differ-assoc (suc zero) (suc zero) zero h k l = refl
 differ-assoc (suc zero) (suc zero) (suc zero) h k l = refl
 
@@ -42,7 +39,7 @@ bit q d h = omega arith
 xor-odd : (a b : ℕ) → bitXor a b % 2 ≡ differ (a % 2) (b % 2)
 xor-odd a b =
     ap (λ (n : ℕ). n % 2) (xor-step a b)
-    ∙ bit (bitXor (a / 2) (b / 2)) (differ (a % 2) (b % 2)) (differ-lt (a % 2) (b % 2) (mod-lt a two-pos) (mod-lt b two-pos))
+    ∙ bit (bitXor (a / 2) (b / 2)) (differ (a % 2) (b % 2)) (differ-lt (a % 2) (b % 2) (omega arith) (omega arith))
 
 pub xor-assoc : (a b c : ℕ) → bitXor (bitXor a b) c ≡ bitXor a (bitXor b c)
 xor-assoc =
@@ -50,7 +47,7 @@ xor-assoc =
     (λ a ih b c.
     xor-step (bitXor a b) c
     ∙ ap₂ (λ (x y : ℕ). bitXor x (c / 2) * 2 + differ y (c % 2)) (xor-shr a b 1) (xor-odd a b)
-    ∙ ap₂ (λ (x y : ℕ). x * 2 + y) (ih (b / 2) (c / 2)) (differ-assoc (a % 2) (b % 2) (c % 2) (mod-lt a two-pos) (mod-lt b two-pos) (mod-lt c two-pos))
+    ∙ ap₂ (λ (x y : ℕ). x * 2 + y) (ih (b / 2) (c / 2)) (differ-assoc (a % 2) (b % 2) (c % 2) (omega arith) (omega arith) (omega arith))
     ∙ sym (xor-step a (bitXor b c) ∙ ap₂ (λ (x y : ℕ). bitXor (a / 2) x * 2 + differ (a % 2) y) (xor-shr b c 1) (xor-odd b c)))
 
 -- (p + q) + (r + s) is (p + r) + (q + s)
@@ -85,7 +82,7 @@ infixl 20 _⊕_
 pub _⊕_ : {f g : ℕ → ℕ} → Linear f → Linear g → Linear (λ x. bitXor (f x) (g x))
 _⊕_ {f} {g} p q = record { is = λ a b. ap₂ bitXor (p .is a b) (q .is a b) ∙ xor-swap (f a) (f b) (g a) (g b) }
 
--- moved down, moved up in 64 bits, and the lowest bits
+-- moved down; the lowest bits; moved up
 pub down : (k : ℕ) {f : ℕ → ℕ} → Linear f → Linear (λ x. f x / 2 ^ k)
 down k {f} p = record { is = λ a b. ap (λ (x : ℕ). x / 2 ^ k) (p .is a b) ∙ xor-shr (f a) (f b) k }
 

@@ -1,4 +1,4 @@
--- Words for the inner contracts of the check: eight bytes as one number, the first the highest. No public contract rests on this.
+-- Definitions for the inner contracts of the check. A word is eight bytes as one number, the first the highest. No public contract rests on this.
 use Prim.Native.Nat.{ℕ, zero, suc, _/_, _%_, _^_}
 use mathlib.Core.List.{List, [], _∷_}
 use lib.Bits.{bitXor}
@@ -15,7 +15,7 @@ unfoldable pub fedAll : ℕ → List ℕ → ℕ
 fedAll c [] = c
 fedAll c (w ∷ ws) = fedAll (fed 8 c w) ws
 
--- the words of sixteen, the first first
+-- the sixteen words as a list
 unfoldable pub wordsIn : Words → List ℕ
 wordsIn x =
     x .w0 ∷ x .w1 ∷ x .w2 ∷ x .w3 ∷ x .w4 ∷ x .w5 ∷ x .w6 ∷ x .w7

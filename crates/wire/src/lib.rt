@@ -92,8 +92,8 @@ pub fn put32(out: &mut [u8], at: usize, n: usize)
     put16(out, at + 2, n / 65536);
 }
 
-// The check is what the polynomial of 1021 hex, x^16 + x^12 + x^5 + 1, leaves of the bytes. Its squares have no more terms: the 4th power is
-// x^64 + x^48 + x^20 + 1, the 64th x^1024 + x^768 + x^320 + 1. So a word of eight bytes, or sixteen of them, are taken at once by shifts and
+// The check is a remainder by the polynomial of 1021 hex, x^16 + x^12 + x^5 + 1. Its squares have no more terms: the 4th power is
+// x^64 + x^48 + x^20 + 1, the 64th x^1024 + x^768 + x^320 + 1. So one word of eight bytes, or sixteen words, can be taken at once by shifts and
 // sums, with no table.
 
 // The register after one byte, its eight bits at once.
@@ -118,14 +118,14 @@ fn by_bytes(c: u16, s: &[u8], at: usize) -> u16
     x
 }
 
+// A byte, with its bound for the sums.
 fn wide(x: u8) -> u64
     ensures { λ r. ⌜ (r ≡ x) × (r < 256) ⌝ }
 {
     x as u64
 }
 
-// The eight bytes from `i` on, the first highest. The compiler makes one load and one swap of bytes of this sum, since it adds the last
-// byte first.
+// The eight bytes from `i` on, the first highest. The last byte is added first: in this order the compiler makes one load and one byte swap.
 fn word(s: &[u8], i: usize) -> u64
     requires { ⌜ i + 8 ≤ length (now s) ⌝ }
     ensures { λ r. ⌜ ((c : ℕ) → crcFrom c (drop i (now (s .entry))) ≡ crcFrom (fed 8 c r) (drop (i + 8) (now (s .entry)))) ⌝ }
@@ -140,7 +140,7 @@ fn word(s: &[u8], i: usize) -> u64
         + wide(s[i]) * 72057594037927936
 }
 
-// The quotient of a word and eight bytes 0 by the polynomial's 4th power.
+// The quotient of a word followed by eight bytes 0, by the polynomial's 4th power.
 fn quotient(w: u64) -> u64
     ensures { λ r. ⌜ r ≡ quotientOf w ⌝ }
 {
@@ -148,7 +148,8 @@ fn quotient(w: u64) -> u64
     t ^ (t >> 32) ^ (w >> 44)
 }
 
-// The register after the bytes of a word, from 0. The quotient by the 4th power, times the 2nd and the 1st, is that by the polynomial.
+// The register after the bytes of a word, from 0. The quotient by the 4th power, times the 2nd and the 1st, is that by the polynomial
+// itself; of each product only the whole part is kept.
 fn register(w: u64) -> u16
     ensures { λ r. ⌜ r ≡ fed 8 0 w ⌝ }
 {
@@ -180,7 +181,7 @@ fn by_words(w: u64, s: &[u8], at: usize) -> u16
     by_bytes(register(v), s, i)
 }
 
-// Sixteen words that stand for all bytes so far: from 0, they leave the register as the check has it.
+// Sixteen words, the first first.
 struct Words {
     w0: u64,
     w1: u64,
@@ -295,16 +296,14 @@ fn joined(x: Words) -> u64
 // The word after which the register, from 0, holds FFFF.
 const PRESET: u64 = 33999;
 
-// The bytes of a turn, and from how many bytes on turns pay, since sixteen words are joined behind the last.
+// The bytes of a turn: sixteen words.
 const TURN: usize = 128;
 
-const LONG: usize = 256;
-
-// The check of all bytes of `s`.
+// The check of all bytes of `s`. Sixteen words stand for the bytes of all turns so far: from 0, they leave the register as those do from FFFF.
 pub fn crc(s: &[u8]) -> u16
     ensures { λ r. ⌜ r ≡ crcOf (now (s .entry)) ⌝ }
 {
-    if s.len() < LONG {
+    if s.len() < TURN {
         return by_words(PRESET, s, 0);
     }
     let mut x = Words {

@@ -1,4 +1,4 @@
--- Two words after another become one.
+-- Word by word, two become one.
 use Rattle.wire.proofs.Turns.{sixteen}
 use Rattle.wire.proofs.joined.Statement.{statement}
 use Rattle.wire.proofs.joined.Tie as tie

@@ -3,7 +3,7 @@ use mathlib.Core.Path.{refl}
 use Prim.Native.Nat.{_+_}
 use native.Mathlib.Omega.{arith}
 use Rattle.wire.specs.InnerCheck.{wordsIn}
-use Rattle.wire.proofs.Turns.{before, none}
+use Rattle.wire.proofs.Turns.{ahead, none}
 use borrow.Author.Needs.{needs}
 use Rattle.wire.proofs.words_at.Statement.{statement}
 use Rattle.wire.proofs.words_at.Tie as tie
@@ -122,22 +122,22 @@ returns c =
     let p14 = c .before .before .word14 in
     let p15 = c .before .word15 in
     let p16 = c .word16 in
-    (before i (i + 8) (p1 .result) (p1 .ensures) refl (
-    before (i + 8) (i + 16) (p2 .result) (p2 .ensures) (omega arith) (
-    before (i + 16) (i + 24) (p3 .result) (p3 .ensures) (omega arith) (
-    before (i + 24) (i + 32) (p4 .result) (p4 .ensures) (omega arith) (
-    before (i + 32) (i + 40) (p5 .result) (p5 .ensures) (omega arith) (
-    before (i + 40) (i + 48) (p6 .result) (p6 .ensures) (omega arith) (
-    before (i + 48) (i + 56) (p7 .result) (p7 .ensures) (omega arith) (
-    before (i + 56) (i + 64) (p8 .result) (p8 .ensures) (omega arith) (
-    before (i + 64) (i + 72) (p9 .result) (p9 .ensures) (omega arith) (
-    before (i + 72) (i + 80) (p10 .result) (p10 .ensures) (omega arith) (
-    before (i + 80) (i + 88) (p11 .result) (p11 .ensures) (omega arith) (
-    before (i + 88) (i + 96) (p12 .result) (p12 .ensures) (omega arith) (
-    before (i + 96) (i + 104) (p13 .result) (p13 .ensures) (omega arith) (
-    before (i + 104) (i + 112) (p14 .result) (p14 .ensures) (omega arith) (
-    before (i + 112) (i + 120) (p15 .result) (p15 .ensures) (omega arith) (
-    before (i + 120) (i + 128) (p16 .result) (p16 .ensures) (omega arith) (
+    (ahead i (i + 8) (p1 .result) (p1 .ensures) refl (
+    ahead (i + 8) (i + 16) (p2 .result) (p2 .ensures) (omega arith) (
+    ahead (i + 16) (i + 24) (p3 .result) (p3 .ensures) (omega arith) (
+    ahead (i + 24) (i + 32) (p4 .result) (p4 .ensures) (omega arith) (
+    ahead (i + 32) (i + 40) (p5 .result) (p5 .ensures) (omega arith) (
+    ahead (i + 40) (i + 48) (p6 .result) (p6 .ensures) (omega arith) (
+    ahead (i + 48) (i + 56) (p7 .result) (p7 .ensures) (omega arith) (
+    ahead (i + 56) (i + 64) (p8 .result) (p8 .ensures) (omega arith) (
+    ahead (i + 64) (i + 72) (p9 .result) (p9 .ensures) (omega arith) (
+    ahead (i + 72) (i + 80) (p10 .result) (p10 .ensures) (omega arith) (
+    ahead (i + 80) (i + 88) (p11 .result) (p11 .ensures) (omega arith) (
+    ahead (i + 88) (i + 96) (p12 .result) (p12 .ensures) (omega arith) (
+    ahead (i + 96) (i + 104) (p13 .result) (p13 .ensures) (omega arith) (
+    ahead (i + 104) (i + 112) (p14 .result) (p14 .ensures) (omega arith) (
+    ahead (i + 112) (i + 120) (p15 .result) (p15 .ensures) (omega arith) (
+    ahead (i + 120) (i + 128) (p16 .result) (p16 .ensures) (omega arith) (
     none (a .s .now) (i + 128))))))))))))))))) .is)
 
 pub words-at-spec : {M : Type 1} → statement M
