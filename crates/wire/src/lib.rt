@@ -1,5 +1,5 @@
 // Numbers in bytes and the check over bytes (01, The record): what every other chapter reads and writes with.
-// Every read answers for any place: a byte past the end counts as 0, and a part is what is there of it.
+// Every public read answers for any place: a byte past the end counts as 0, and a part is what is there of it.
 ghost use mathlib.Core.Path.{_≡_};
 ghost use mathlib.Core.List.{_++_};
 ghost use Prim.Native.Nat.{ℕ, _+_, _^_, _≤_, _<_};
