@@ -10,8 +10,8 @@ import tigmavresh
 
 TOP = Path(__file__).resolve().parents[2]
 SAMPLES = TOP / "samples"
-ACCEPTED = ["007", "7", "two-leads", "makers-sections", "limb-leads", "own-tables", "beat"]
-WITH_LEADS = ["two-leads", "limb-leads", "own-tables", "beat"]
+ACCEPTED = ["007", "7", "two-leads", "makers-sections", "limb-leads", "own-tables", "beat", "padded"]
+WITH_LEADS = ["two-leads", "limb-leads", "own-tables", "beat", "padded"]
 REFUSED = [1, 2, 3, 4, 5, 6, 7, 8, 9, 10, 12, 13, 14]
 
 

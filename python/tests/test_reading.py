@@ -112,6 +112,15 @@ class Leads(Case):
         self.assertEqual(lead.samples.tolist()[:10], [28, 119, 80, -9, -2, -1, -1, 0, 1, 2])
         self.assertEqual(record.lead(1).samples.tolist(), record.lead(1).samples.tolist(), "read twice")
 
+    def test_padded_streams_are_read_as_unpadded_ones(self):
+        padded, beat = tigmavresh.open(sample("padded")), tigmavresh.open(sample("beat"))
+        for place in (1, 2):
+            one, other = padded.lead(place), beat.lead(place)
+            self.assertEqual(one.samples.tolist(), other.samples.tolist())
+            said = [(lead.id, lead.first, lead.last, lead.step, lead.interval, lead.flags) for lead in (one, other)]
+            self.assertEqual(said[0], said[1])
+            self.assertEqual(padded.entry(place).bytes % 2, 0)
+
     def test_an_entry(self):
         entry = tigmavresh.open(sample("limb-leads")).entry(4)
         expected = tigmavresh.Entry(

@@ -127,6 +127,21 @@ static void subtracted_beat(void) {
     lead_refused(SCP_REFUSED_ROOM, 2, 26, 0, 0);
 }
 
+/* Streams padded to an even number of bytes, in Sections 5 and 6: each lead is read to what it is in beat.scp. */
+static void padded_streams(void) {
+    for (size_t place = 1; place <= 2; place++) {
+        int16_t numbers[LEAD_ROOM];
+        load("beat.scp");
+        ScpLead lead = read_guarded(place, LEAD_ROOM, LEAD_ROOM);
+        EXPECT(lead.refusal == 0 && lead.count == (place == 1 ? 40 : 26));
+        memcpy(numbers, out + GUARDS, sizeof numbers);
+        load("padded.scp");
+        lead_is(place, lead.count, 8, 8, lead.id, lead.flags, lead.first, numbers, lead.count);
+        EXPECT(scp_lead(file, file_size, place).bytes % 2 == 0);
+    }
+    EXPECT(broken_row() == 0);
+}
+
 /* Records that open, and are refused in all leads or in the second. */
 static void refused_leads(void) {
     static const struct { const char *name; uint8_t number; size_t cleared; } asked[] = {
@@ -162,5 +177,6 @@ void check_leads(const char *folder) {
     two_bytes_a_value();
     own_tables();
     subtracted_beat();
+    padded_streams();
     refused_leads();
 }

@@ -41,7 +41,7 @@ enum {
     SCP_REFUSED_ROOM = 11,                  /* the output or the work space is too short */
     SCP_REFUSED_CODE = 12,                  /* a value's code matches nothing, or the stream ends in it */
     SCP_REFUSED_SAMPLE = 13,                /* a sample does not fit 16 bits */
-    SCP_REFUSED_LEFT_OVER_BITS = 14,        /* 8 or more bits are left after the last sample */
+    SCP_REFUSED_LEFT_OVER_BITS = 14,        /* 16 or more bits are left after the last sample; up to 15 are ignored */
     SCP_REFUSED_NO_STREAM = 15,             /* these samples cannot be encoded with these tables */
     SCP_REFUSED_TOO_LONG = 16,              /* the shortest stream has more than 65,535 bytes, or the record more than 1,048,576 */
     /* 0 or more than 65,536 samples are to be coded, or the order is over 2; for a record also: 0 or more than 32 leads, a

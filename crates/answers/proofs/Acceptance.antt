@@ -75,7 +75,7 @@ step-shown s at f e = let w = step-found s at f e in (fields-step s at ∙ ap (o
 
 -- ---- the tables of a record
 
-record-right : (r : List ℕ) → tablesRight r ≡ true → every (tableRight (length (tablesOf r))) (tablesOf r) ≡ true
+pub record-right : (r : List ℕ) → tablesRight r ≡ true → every (tableRight (length (tablesOf r))) (tablesOf r) ≡ true
 unfolding tablesRight tablesOf every
 record-right r h = go (present r 2) h
   where

@@ -4,7 +4,7 @@ use mathlib.Core.Path.{_≡_, refl}
 use mathlib.Core.Bool.{Bool, true, false, cond}
 use mathlib.Core.List.{List, [], _∷_}
 use mathlib.Core.Logic.{_⊎_, inl, inr}
-use lib.Dec.{ltb}
+use lib.Dec.{leb}
 use lib.IntN.{ℤ, pos, _+ℤ_}
 use lib.ListN.{length}
 use Rattle.bits.specs.Bits.{bitsIn}
@@ -13,7 +13,7 @@ use Rattle.tables.specs.declared.Structure.{Structure}
 use Rattle.reading.specs.Reading.{Next, gave, stuck, readNext}
 use Rattle.samples.specs.Differences.{sampleOf}
 use Rattle.samples.specs.Trace.{Trace, rebuilt, fault, fits16, behind, afterSample, afterTrace}
-use Rattle.traces.specs.Rebuilding.{afterNext, rebuildFrom, rebuild}
+use Rattle.traces.specs.Rebuilding.{afterNext, mostLeftOver, rebuildFrom, rebuild}
 use Rattle.entries.specs.Section3.{firstSample}
 use Rattle.entries.specs.Sections5And6.{orderOf, streamOf}
 use Rattle.beats.specs.Sums.{beatPlace, beatValueAt, addBeat}
@@ -40,7 +40,7 @@ fault-sample goOn x h = go (fits16 x)
 fault-rebuilt : (tables : List (List Structure)) (order left place : ℕ) (last other : ℤ) (table : ℕ) (bs : List ℕ)
     → Fault (rebuildFrom tables order left place last other table bs)
 unfolding rebuildFrom
-fault-rebuilt tables order zero place last other table bs = go (ltb (length bs) 8)
+fault-rebuilt tables order zero place last other table bs = go (leb (length bs) mostLeftOver)
   where
     go : (b : Bool) → Fault (cond b (rebuilt []) (fault 14))
     go true = tt

@@ -6,8 +6,8 @@ use mathlib.Core.List.{List, [], _∷_, _++_, append-nil, append-assoc}
 use mathlib.Core.Logic.{_↔_}
 use mathlib.Core.Option.{Option, none, some}
 use native.Mathlib.Omega.{arith}
-use lib.Dec.{leb, ltb}
-use borrow.Author.Tests.{leb-true, leb-false, le-leb, ltb-true}
+use lib.Dec.{leb}
+use borrow.Author.Tests.{leb-true, leb-false, le-leb}
 use lib.IntN.{ℤ, pos}
 use lib.ListN.{length, drop, length-append}
 use lib.Seq.{take-append-seam}
@@ -19,7 +19,7 @@ use Rattle.reading.specs.Reading.{Next, gave, stuck, readNext}
 use Rattle.samples.specs.Differences.{storedOf, sampleOf, storedFrom, differences}
 use Rattle.samples.specs.Trace.{Trace, rebuilt, fault, fits16, behind, afterSample}
 use Rattle.samples.proofs.Laws.{stored-sample}
-use Rattle.traces.specs.Rebuilding.{afterNext, rebuildFrom, rebuild}
+use Rattle.traces.specs.Rebuilding.{afterNext, mostLeftOver, rebuildFrom, rebuild}
 use Rattle.packing.specs.Packing.{bytesFor, packed}
 use Rattle.paths.proofs.Compared.{compared-unique}
 use Rattle.shortest.specs.Shortest.{ReadsTo, done, value, Stream, Shortest}
@@ -28,7 +28,7 @@ use Rattle.shortest.proofs.Cut.{next-cut}
 use Rattle.encode.specs.declared.Coded.{Coded}
 use Rattle.encode.specs.Encoding.{tablesGiven, askedRight, tablesGivenRight, workRight, askedRefusal, SearchFinds, foundRefusal, codedAs, outAs, LeadEncoding, refused, answered}
 use Rattle.wire.proofs.Laws.{kept-first, unlike}
-use Rattle.trip.proofs.Traces.{rebuilt-from}
+use Rattle.trip.proofs.Traces.{left-few}
 use Rattle.trip.proofs.Compose.{given-right}
 use Rattle.answers.specs.Demands.{StreamFor, BeginsWithStream, FewestBits, EncodingDue}
 use Rattle.answers.proofs.Cases.{Case, first, second, third, fourth, Apart, exactly}
@@ -40,7 +40,7 @@ record Begins (tables : List (List Structure)) (t : ℕ) (bs : List ℕ) (vs : L
   pub rest : List ℕ
   pub whole : stream ++ rest ≡ bs
   pub reads : ReadsTo tables t stream vs
-  pub few : length rest < 8
+  pub few : length rest ≤ mostLeftOver
 
 -- a trace behind a sample is a trace of samples where the whole is
 record Behind (x y : ℤ) (xs : List ℤ) (t : Trace) : Type 0 where
@@ -61,11 +61,11 @@ module _ (n : ℕ) (tables : List (List Structure)) (right : every (tableRight n
       → rebuildFrom tables order (length xs) place last other t bs ≡ rebuilt xs → Begins tables t bs (storedFrom order place last other xs)
   unfolding rebuildFrom storedFrom afterSample
   begins [] place last other t bs small h =
-      record { stream = []; rest = bs; whole = refl; reads = done; few = left-few (ltb (length bs) 8) refl h }
+      record { stream = []; rest = bs; whole = refl; reads = done; few = few-left (leb (length bs) mostLeftOver) refl h }
     where
-      left-few : (b : Bool) → ltb (length bs) 8 ≡ b → cond b (rebuilt []) (fault 14) ≡ rebuilt [] → length bs < 8
-      left-few true e g = ltb-true (length bs) 8 e
-      left-few false e g = unlike cc
+      few-left : (b : Bool) → leb (length bs) mostLeftOver ≡ b → cond b (rebuilt []) (fault 14) ≡ rebuilt [] → length bs ≤ mostLeftOver
+      few-left true e g = leb-true (length bs) mostLeftOver e
+      few-left false e g = unlike cc
   begins (x ∷ xs) place last other t bs small h = go (readNext tables t bs) refl h (begins xs (place + 1) x last)
     where
       go : (o : Next) → readNext tables t bs ≡ o → afterNext
@@ -91,20 +91,15 @@ module _ (n : ℕ) (tables : List (List Structure)) (right : every (tableRight n
 
   -- ---- the shortest stream for the differences has the fewest bits for the samples
 
-  -- a stream for the differences is rebuilt to the samples, with fewer than 8 bits behind it
-  pub rebuilds-with : (xs : List ℤ) (bs rest : List ℕ) → every fits16 xs ≡ true → Stream tables (differences order xs) bs → length rest < 8
-      → rebuild tables order (length xs) (bs ++ rest) ≡ rebuilt xs
-  unfolding rebuild differences
-  rebuilds-with xs bs rest fit s few = rebuilt-from n tables right rest few order xs 0 (pos 0) (pos 0) 1 bs fit (s .reads)
-
+  -- a stream for the differences is rebuilt to the samples
   rebuilds : (xs : List ℤ) (bs : List ℕ) → every fits16 xs ≡ true → Stream tables (differences order xs) bs → StreamFor tables order xs bs
   rebuilds xs bs fit s = record {
     bits = s .bits;
-    reads = ap (rebuild tables order (length xs)) (sym (append-nil bs)) ∙ rebuilds-with xs bs [] fit s (omega arith);
+    reads = ap (rebuild tables order (length xs)) (sym (append-nil bs)) ∙ left-few n tables right order xs bs fit s [] (omega arith);
   }
 
-  -- and what is rebuilt to the samples begins with such a stream, with fewer than 8 bits behind it
-  pub inside : (xs : List ℤ) (bs : List ℕ) → StreamFor tables order xs bs → BeginsWithStream tables order xs bs
+  -- and what is rebuilt to the samples begins with such a stream, with no more behind it than may be left over
+  pub inside : (xs : List ℤ) (bs : List ℕ) → StreamFor tables order xs bs → BeginsWithStream mostLeftOver tables order xs bs
   unfolding rebuild differences
   inside xs bs s =
       let small = bits-small bs (s .bits) in
@@ -120,14 +115,14 @@ module _ (n : ℕ) (tables : List (List Structure)) (right : every (tableRight n
       }
 
   -- the one is so exactly if the other is
-  pub undone : (xs : List ℤ) (bs : List ℕ) → every fits16 xs ≡ true → StreamFor tables order xs bs ↔ BeginsWithStream tables order xs bs
+  pub undone : (xs : List ℤ) (bs : List ℕ) → every fits16 xs ≡ true → StreamFor tables order xs bs ↔ BeginsWithStream mostLeftOver tables order xs bs
   undone xs bs fit = (
     inside xs bs,
-    λ b. record { bits = b .bits; reads = rw (← b .whole) (rebuilds-with xs (b .stream) (b .rest) fit (b .reads) (b .few)) },
+    λ b. record { bits = b .bits; reads = rw (← b .whole) (left-few n tables right order xs (b .stream) fit (b .reads) (b .rest) (b .few)) },
   )
 
   -- where bits that are rebuilt to the samples are no more than a shortest stream has, they are a stream, with nothing behind it
-  whole-stream : (xs : List ℤ) (bs other : List ℕ) → Shortest tables (differences order xs) bs → (o : BeginsWithStream tables order xs other)
+  whole-stream : (xs : List ℤ) (bs other : List ℕ) → Shortest tables (differences order xs) bs → (o : BeginsWithStream mostLeftOver tables order xs other)
       → length other ≡ length bs → Stream tables (differences order xs) other
   whole-stream xs bs other s o e = go (o .rest) (o .whole) (length-append (o .stream) (o .rest))
     where

@@ -6,6 +6,7 @@ pub mod Refusals
 pub mod Cases
 pub mod Fewest
 pub mod Acceptance
+pub mod Padding
 pub mod Written
 pub mod Shortest
 pub mod Outcomes

@@ -36,7 +36,7 @@ use Rattle.fields.specs.Lookup.{fieldPlace, walkPlace, refusalOf, partBytes}
 use Rattle.tables.specs.declared.Structure.{Structure}
 use Rattle.samples.specs.Differences.{differences}
 use Rattle.samples.specs.Trace.{Trace, rebuilt, fault, fits16}
-use Rattle.traces.specs.Rebuilding.{rebuild}
+use Rattle.traces.specs.Rebuilding.{mostLeftOver, rebuild}
 use Rattle.entries.specs.Section3.{flagsOf, firstSample, leadId}
 use Rattle.entries.specs.Sections5And6.{stepOf, intervalOf}
 use Rattle.rules.specs.LeadRules.{tablesRight, beatSubtracted, sections3To6Right, agrees, hasLead}
@@ -173,19 +173,19 @@ pub record Demand1 : Type 0 where
 
 -- ---- the second demand
 
--- bits that the reader rebuilds to these samples, from table 1 on; fewer than 8 bits left over are ignored
+-- bits that the reader rebuilds to these samples, from table 1 on; up to 15 bits left over are ignored (Q-1)
 pub record StreamFor (tables : List (List Structure)) (order : ℕ) (xs : List ℤ) (bs : List ℕ) : Type 0 where
   pub bits : areBits bs ≡ true
   pub reads : rebuild tables order (length xs) bs ≡ rebuilt xs
 
--- the same said by the values that are read: the bits begin with a stream for the differences of the samples, and fewer than 8 follow it
-pub record BeginsWithStream (tables : List (List Structure)) (order : ℕ) (xs : List ℤ) (bs : List ℕ) : Type 0 where
+-- bits by the values that are read: they begin with a stream for the differences of the samples, and up to `most` bits follow it
+pub record BeginsWithStream (most : ℕ) (tables : List (List Structure)) (order : ℕ) (xs : List ℤ) (bs : List ℕ) : Type 0 where
   pub bits : areBits bs ≡ true
   pub stream : List ℕ
   pub rest : List ℕ
   pub whole : stream ++ rest ≡ bs
   pub reads : Stream tables (differences order xs) stream
-  pub few : length rest < 8
+  pub few : length rest ≤ most
 
 pub record Demand2 : Type 0 where
   -- > What is read is what SCP-ECG says, under 01's rules: header fields byte for byte, zeros kept, every lead sample exact.
@@ -219,11 +219,11 @@ pub record Demand2 : Type 0 where
         count = length xs;
       }) × (outAfter (readTrace r place room work) out ≡ xs ++ drop (length xs) out) × (length xs ≡ sampleCountAt r (place - 1))
   -- rebuilding undoes the differences: bits are rebuilt to samples of 16 bits exactly if reading value after value takes them to the
-  -- differences of the samples, with fewer than 8 bits behind; by a record's own tables, and by those that the writer is given
+  -- differences of the samples, with up to 15 bits behind (Q-1); by a record's own tables, and by those that the writer is given
   pub undone : (r : List ℕ) (order : ℕ) (xs : List ℤ) (bs : List ℕ) → tablesRight r ≡ true → every fits16 xs ≡ true
-      → StreamFor (tablesOf r) order xs bs ↔ BeginsWithStream (tablesOf r) order xs bs
+      → StreamFor (tablesOf r) order xs bs ↔ BeginsWithStream mostLeftOver (tablesOf r) order xs bs
   pub undone-given : (s2 : List ℕ) (order : ℕ) (xs : List ℤ) (bs : List ℕ) → tablesGivenRight s2 ≡ true → every fits16 xs ≡ true
-      → StreamFor (tablesGiven s2) order xs bs ↔ BeginsWithStream (tablesGiven s2) order xs bs
+      → StreamFor (tablesGiven s2) order xs bs ↔ BeginsWithStream mostLeftOver (tablesGiven s2) order xs bs
   -- > What our writer accepts and writes, our reader gives back the same.
   -- First a lead that is encoded, then a record that is written
   pub coded-back : (s2 : List ℕ) (xs : List ℤ) (order : ℕ) (work out : List ℕ) (a : Coded) (w o : List ℕ) → every fits16 xs ≡ true

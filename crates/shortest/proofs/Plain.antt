@@ -120,7 +120,7 @@ plain-reads t (v ∷ vs) h =
     rw (plain-cons v vs) (value (plain-read t v (plainBits vs) (h 0 (omega arith))) (plain-reads t vs (λ k l. h (suc k) (omega arith))))
 
 -- there is no other stream
-plain-only : {t : ℕ} {bs : List ℕ} {vs : List ℤ} → Small bs → ReadsTo [] t bs vs → plainBits vs ≡ bs
+pub plain-only : {t : ℕ} {bs : List ℕ} {vs : List ℤ} → Small bs → ReadsTo [] t bs vs → plainBits vs ≡ bs
 unfolding readNext plainBits bitsIn plainBytes
 plain-only small done = refl
 plain-only small (value {table = t} {next = next} {bs = bs} {rest = rest} {v = v} {vs = vs} h r) =

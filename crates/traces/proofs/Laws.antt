@@ -8,7 +8,7 @@ use native.Mathlib.Nat.{sub-zero}
 use native.Mathlib.Numerals.{add-one}
 use native.Mathlib.Omega.{arith}
 use borrow.Author.Tests.{lt-ltb, le-ltb, le-leb, lt-leb}
-use lib.Dec.{ltb}
+use lib.Dec.{leb}
 use lib.IntN.{ℤ, pos}
 use lib.ListN.{length, take, drop, set}
 use lib.Seq.{take-all, take-suc-set}
@@ -20,7 +20,7 @@ use Rattle.samples.specs.InnerTrace.{before, traceOf}
 use Rattle.samples.proofs.Laws.{fits-lower, before-none, before-more}
 use Rattle.tables.specs.declared.Structure.{Structure}
 use Rattle.reading.specs.Reading.{Next, gave, stuck, readNext}
-use Rattle.traces.specs.Rebuilding.{afterNext, rebuildFrom, rebuild}
+use Rattle.traces.specs.Rebuilding.{afterNext, mostLeftOver, rebuildFrom, rebuild}
 
 -- ---- one sample
 
@@ -82,16 +82,16 @@ room-fault (suc n) room h = refl
 -- all samples are there
 module _ (tables : List (List Structure)) (order left j : ℕ) (last other : ℤ) (table : ℕ) (bs : List ℕ) (none : left ≡ 0)
     (room : List ℤ) where
-  -- fewer than 8 bits are left
-  pub room-end : length bs < 8 → length room ≤ j
+  -- no more bits are left over than may be
+  pub room-end : length bs ≤ mostLeftOver → length room ≤ j
       → rebuilt room ≡ before (take j room) (rebuildFrom tables order left j last other table bs)
   unfolding rebuildFrom
-  room-end h g = rw (none, lt-ltb (length bs) 8 h, append-nil (take j room), take-all j room g)
+  room-end h g = rw (none, le-leb (length bs) mostLeftOver h, append-nil (take j room), take-all j room g)
 
-  -- 8 or more are left
-  pub room-over : 8 ≤ length bs → fault 14 ≡ before (take j room) (rebuildFrom tables order left j last other table bs)
+  -- more are left over
+  pub room-over : mostLeftOver < length bs → fault 14 ≡ before (take j room) (rebuildFrom tables order left j last other table bs)
   unfolding rebuildFrom
-  room-over h = rw (none, le-ltb (length bs) 8 h)
+  room-over h = rw (none, lt-leb (length bs) mostLeftOver h)
 
 -- ---- how many samples there are
 
@@ -115,7 +115,7 @@ counted-sample n goOn x h = go (fits16 x)
 counted-from : (tables : List (List Structure)) (order left place : ℕ) (last other : ℤ) (table : ℕ) (bs : List ℕ)
     → Counted left (rebuildFrom tables order left place last other table bs)
 unfolding rebuildFrom
-counted-from tables order zero place last other table bs = go (ltb (length bs) 8)
+counted-from tables order zero place last other table bs = go (leb (length bs) mostLeftOver)
   where
     go : (b : Bool) → Counted 0 (cond b (rebuilt []) (fault 14))
     go true = refl

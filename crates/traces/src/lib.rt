@@ -20,6 +20,10 @@ pub enum Sampled {
     Fault(u8),
 }
 
+// At most this many bits left over behind the last sample are ignored (01, Refusal numbers, row 14; Q-1): some carts pad a lead to an
+// even number of bytes.
+const MOST_LEFT_OVER: usize = 15;
+
 // The sample at a place, behind the samples `last` and `other`: 12 where there is no value, 13 where it is outside 16 bits.
 fn next_sample(
     c: Cursor,
@@ -78,7 +82,7 @@ pub fn rebuild(s: &[u8], tab: &[u32], order: usize, room: &mut [i16]) -> u8
             }
         }
     }
-    if s.len() * 8 - c.at < 8 {
+    if s.len() * 8 - c.at <= MOST_LEFT_OVER {
         return 0;
     }
     14

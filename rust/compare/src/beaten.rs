@@ -49,12 +49,17 @@ pub fn beaten(rng: &mut Rng) -> Vec<u8> {
     draft.lay_out()
 }
 
-/// Streams with these counts of samples, each sample of up to this size, a millisecond apart.
+/// Streams with these counts of samples, each sample of up to this size, a millisecond apart. Some have a byte more, which is
+/// ignored, as carts pad streams (01, row 14; Q-1).
 fn streams(tables: &[u8], size: usize, counts: &[usize], rng: &mut Rng) -> Stored {
     let order = if size > 8000 { 0 } else { rng.below(3) as u8 };
     let stream = |&count: &usize| {
         let wave: Vec<i16> = (0..count).map(|_| sample(size, rng)).collect();
-        shortest(tables, order, &wave)
+        let mut stream = shortest(tables, order, &wave);
+        if rng.one_in(3) {
+            stream.push(rng.byte());
+        }
+        stream
     };
     let mut stored = Stored::new(order, counts.iter().map(stream).collect());
     stored.interval = 1000;
@@ -134,7 +139,7 @@ fn spoil(streams: &mut [Vec<u8>], rng: &mut Rng) {
     let stream = &mut streams[at];
     match rng.below(3) {
         0 => stream.truncate(stream.len() - 1 - rng.below(stream.len())),
-        1 => stream.push(rng.byte()),
+        1 => stream.extend(rng.bytes_within(1..=3)),
         _ => {
             let at = rng.below(stream.len());
             stream[at] = rng.other_byte(stream[at]);

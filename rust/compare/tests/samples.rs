@@ -1,6 +1,6 @@
 //! The files of `samples/` are what they are said to be.
 
-use std::collections::BTreeSet;
+use std::collections::{BTreeMap, BTreeSet};
 use std::fs;
 use std::path::{Path, PathBuf};
 
@@ -69,7 +69,7 @@ fn judged_lead(record: &[u8], place: usize) -> u8 {
 /// The leads of the accepted samples, as they were made up.
 #[test]
 fn leads_are_read_to_what_was_made_up() {
-    let samples: std::collections::BTreeMap<_, _> = compare::samples::all().into_iter().collect();
+    let samples: BTreeMap<_, _> = compare::samples::all().into_iter().collect();
     let read = |name: &str, place| scp::samples(&samples[name], place).unwrap().1;
     assert_eq!(read("two-leads.scp", 1), [10, 12, 13, 15, 18, 22, 20, 15]);
     assert_eq!(
@@ -93,4 +93,29 @@ fn leads_are_read_to_what_was_made_up() {
     let (i, ii) = (read("limb-leads.scp", 1), read("limb-leads.scp", 2));
     let iii = read("limb-leads.scp", 3);
     assert!((0..40).all(|n| iii[n] == ii[n] - i[n]));
+}
+
+/// Every stream of `padded.scp` is padded, two of them in each of Sections 5 and 6, and its leads are those of `beat.scp`.
+#[test]
+fn padded_leads_are_those_of_the_beat() {
+    let samples: BTreeMap<_, _> = compare::samples::all().into_iter().collect();
+    let (padded, beat) = (&samples["padded.scp"], &samples["beat.scp"]);
+    let room = scp::SAMPLES_MAX;
+    for place in [1, 2] {
+        let read = scp::samples(padded, place);
+        assert!(read.is_ok(), "lead {place}");
+        assert_eq!(read, scp::samples(beat, place), "lead {place}");
+        let judged = [padded, beat].map(|record| judge::read_lead(record, place, room, room));
+        assert_eq!(judged[0], judged[1], "lead {place}");
+    }
+    for id in [5, 6] {
+        let pointer = judge::open(padded).unwrap()[id];
+        let start = pointer.index as usize - 1;
+        let data = &padded[start + 16..start + pointer.length as usize];
+        let count = |at: usize| usize::from(u16::from_le_bytes([data[at], data[at + 1]]));
+        let (one, two) = (count(6), count(8));
+        assert_eq!((one % 2, two % 2), (0, 0), "Section {id}");
+        let last = [10 + one - 1, 10 + one + two - 1].map(|at| data[at]);
+        assert_eq!(last, [0xFF; 2], "Section {id}");
+    }
 }

@@ -1,4 +1,5 @@
-//! An independent reading of document 01, to compare the proved library with.
+//! An independent reading of document 01, as Q-1 of document 02 changes it, to compare the proved
+//! library with.
 //!
 //! Each call judges the bytes it is given by itself and answers what the rules say, or the number
 //! of the refusal. A refusal can be explained: [`lead_findings`], [`job_findings`] and

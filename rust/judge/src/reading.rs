@@ -218,8 +218,14 @@ impl Wrong {
     }
 }
 
+/// The most bits that may be left over after the last sample. They are ignored, whatever they hold,
+/// as some carts pad a lead to an even number of bytes (01, Refusal numbers, row 14, as Q-1 changes
+/// it).
+pub const MOST_LEFT_OVER: usize = 15;
+
 /// Reads `count` samples out of a stream, value by value: 12 where a value cannot be read, 13 where
-/// its sample has more than 16 bits, and 14 where 8 or more bits are left in the end.
+/// its sample has more than 16 bits, and 14 where more than [`MOST_LEFT_OVER`] bits are left in the
+/// end.
 pub fn read_stream(
     stream: &[u8],
     tables: Option<&Tables>,
@@ -239,7 +245,7 @@ pub fn read_stream(
     }
     let (left, bits) = (values.bits_left(), values.bits());
     match left {
-        0..=7 => Ok(samples),
+        0..=MOST_LEFT_OVER => Ok(samples),
         _ => Err(Wrong {
             at: count,
             bit: Some(bits - left + 1),

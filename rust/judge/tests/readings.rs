@@ -24,8 +24,7 @@ impl Record {
     fn beaten() -> Self {
         let zone = [0, 0, 2, 0, 0, 0, 2, 0, 0, 0, 3, 0, 0, 0];
         let section_4 = [&[4, 0, 1, 0, 1, 0][..], &zone].concat();
-        let beat = [10, 0, 20, 0];
-        let section_5 = [&STEP_INTERVAL[..], &[0, 9, 4, 0, 4, 0], &beat, &beat].concat();
+        let section_5 = [&STEP_INTERVAL[..], &[0, 9, 4, 0, 4, 0], &BEAT, &BEAT].concat();
         let mut record = Record::plain();
         record.data(3)[1] = 1;
         record.0.insert(2, (4, section_4));
@@ -50,6 +49,17 @@ impl Record {
 
     fn changed(mut self, id: u16, at: usize, byte: u8) -> Self {
         self.data(id)[at] = byte;
+        self
+    }
+
+    /// The same with these streams in Section 5 or 6, and a spare byte behind them if they are odd.
+    fn stored(mut self, id: u16, streams: [&[u8]; 2]) -> Self {
+        let counts = streams.map(|stream| (stream.len() as u16).to_le_bytes());
+        let data = self.data(id);
+        data.truncate(6);
+        data.extend(counts.concat());
+        data.extend(streams.concat());
+        data.resize(data.len().next_multiple_of(2), 0);
         self
     }
 
@@ -95,6 +105,10 @@ const SPAN: [u8; 9] = [1, 0, 0, 0, 3, 0, 0, 0, 8];
 /// Step 5000, interval 2000.
 const STEP_INTERVAL: [u8; 4] = [0x88, 0x13, 0xD0, 0x07];
 const SAMPLES: [u8; 6] = [1, 0, 2, 0, 3, 0];
+/// 10 20.
+const BEAT: [u8; 4] = [10, 0, 20, 0];
+/// Section 2's data that name the default table.
+const DEFAULT_TABLE: [u8; 2] = [0x1F, 0x4E];
 
 fn mended(mut bytes: Vec<u8>) -> Vec<u8> {
     mend_size(&mut bytes);
@@ -352,31 +366,108 @@ fn another_leads_stream_is_not_met() {
     assert_eq!(record.read(2), Ok(vec![1, 2, 3]));
 }
 
+/// By the default table 1 1 1 takes 9 bits and 2 1 0 takes 8: up to 15 bits left over are ignored,
+/// whatever they hold, and 16 or more are refused (01, row 14; Q-1).
 #[test]
 fn bits_left_over() {
-    let mut record = Record::plain();
-    record.data(6)[6] = 7;
-    record.data(6).insert(16, 0);
-    record.data(6).push(0);
-    assert_eq!(record.read(1), Err(row::LEFT_OVER_BITS));
-    assert_eq!(record.read(2), Ok(vec![1, 2, 3]));
-    record.data(6)[6] = 5;
-    record.data(6).drain(15..17);
-    assert_eq!(record.read(1), Err(row::CODE));
+    let sound: &[u8] = &[0x92, 0];
+    for (stream, read) in [
+        (sound, Ok(vec![1, 1, 1])),
+        (&[0x92, 0, 0], Ok(vec![1, 1, 1])),
+        (&[0x92, 0x7F, 0xFF], Ok(vec![1, 1, 1])),
+        (&[0x92, 0, 0, 0], Err(row::LEFT_OVER_BITS)),
+        (&[0xC8], Ok(vec![2, 1, 0])),
+        (&[0xC8, 0xFF], Ok(vec![2, 1, 0])),
+        (&[0xC8, 0, 0], Err(row::LEFT_OVER_BITS)),
+        (&[0xC8, 0xFF, 0xFF], Err(row::LEFT_OVER_BITS)),
+    ] {
+        let record = Record::plain().with(2, &DEFAULT_TABLE);
+        let record = record.stored(6, [stream, sound]);
+        assert_eq!(record.read(1), read, "{stream:X?}");
+        assert_eq!(record.read(2), Ok(vec![1, 1, 1]), "{stream:X?}");
+    }
+}
+
+/// Without Section 2 that is one byte, and two are refused.
+#[test]
+fn bytes_left_over() {
+    for (more, read) in [
+        (&[][..], Ok(vec![1, 2, 3])),
+        (&[0], Ok(vec![1, 2, 3])),
+        (&[0xFF], Ok(vec![1, 2, 3])),
+        (&[0, 0], Err(row::LEFT_OVER_BITS)),
+        (&[0xFF; 2], Err(row::LEFT_OVER_BITS)),
+        (&[0; 3], Err(row::LEFT_OVER_BITS)),
+    ] {
+        let record = Record::plain().stored(6, [&[&SAMPLES, more].concat(), &SAMPLES]);
+        assert_eq!(record.read(1), read, "{more:X?}");
+        assert_eq!(record.read(2), Ok(vec![1, 2, 3]), "{more:X?}");
+    }
+    let cut = Record::plain().stored(6, [&SAMPLES[..5], &SAMPLES]);
+    assert_eq!(cut.read(1), Err(row::CODE));
+}
+
+/// The beat alike: 3 2 takes 9 bits, and 2 2 takes 8; the residual is 1 1 1.
+#[test]
+fn bits_left_over_of_the_beat() {
+    let (sound, residual): (&[u8], &[u8]) = (&[0xE6, 0], &[0x92, 0]);
+    for (stream, read) in [
+        (sound, Ok(vec![1, 4, 3])),
+        (&[0xE6, 0x7F, 0xFF], Ok(vec![1, 4, 3])),
+        (&[0xE6, 0, 0, 0], Err(row::LEFT_OVER_BITS)),
+        (&[0xCC, 0xFF], Ok(vec![1, 3, 3])),
+        (&[0xCC, 0, 0], Err(row::LEFT_OVER_BITS)),
+        (&[0xCC, 0xFF, 0xFF], Err(row::LEFT_OVER_BITS)),
+    ] {
+        let record = Record::beaten().with(2, &DEFAULT_TABLE);
+        let record = record.stored(5, [stream, sound]).stored(6, [residual; 2]);
+        assert_eq!(record.read(1), read, "{stream:X?}");
+        assert_eq!(record.read(2), Ok(vec![1, 4, 3]), "{stream:X?}");
+    }
 }
 
 #[test]
 fn the_beat_is_read_first_and_whole() {
     let no_zone = Record::beaten().changed(4, 4, 0);
     assert_eq!(no_zone.read(1), Ok(vec![1, 2, 3]));
-    let mut left_over = no_zone.clone();
-    left_over.data(5)[6] = 5;
-    left_over.data(5).insert(14, 0);
-    left_over.data(5).push(0);
-    assert_eq!(left_over.read(1), Err(row::LEFT_OVER_BITS));
-    left_over.data(6)[6] = 0;
-    left_over.data(6).drain(10..16);
-    assert_eq!(left_over.read(1), Err(row::LEFT_OVER_BITS));
+    let left_over = |more: &[u8]| {
+        let stream = [&BEAT, more].concat();
+        no_zone.clone().stored(5, [&stream, &BEAT])
+    };
+    assert_eq!(left_over(&[0xFF]).read(1), Ok(vec![1, 2, 3]));
+    for more in [[0, 0], [0xFF, 0xFF]] {
+        let record = left_over(&more);
+        assert_eq!(record.read(1), Err(row::LEFT_OVER_BITS));
+        assert_eq!(record.read(2), Ok(vec![1, 2, 3]));
+        let record = record.stored(6, [&[], &SAMPLES]);
+        assert_eq!(record.read(1), Err(row::LEFT_OVER_BITS));
+    }
+}
+
+/// A padded beat and a padded residual read to what they read to without the padding: of two bytes
+/// a value, and by the default table, where 12 bits are left over of the beat and 15 of the residual.
+#[test]
+fn padded_streams_read_as_unpadded_ones() {
+    let by_table = Record::beaten().with(2, &DEFAULT_TABLE);
+    let ten_twenty: &[u8] = &[0xFF, 0x82, 0xBF, 0xE1, 0x40];
+    for (record, beat, residual, read) in [
+        (Record::beaten(), &BEAT[..], &SAMPLES[..], [1, 12, 23]),
+        (by_table, ten_twenty, &[0x92, 0], [1, 11, 21]),
+    ] {
+        let pad = |stream: &[u8], byte| [stream, &[byte]].concat();
+        let whole = record.stored(5, [beat; 2]).stored(6, [residual; 2]);
+        assert_eq!(whole.read(1), Ok(read.to_vec()));
+        for byte in [0, 0x55, 0xFF] {
+            let (beat, residual) = (&pad(beat, byte), &pad(residual, byte));
+            let beats_padded = whole.clone().stored(5, [beat, beat]);
+            let residuals_padded = whole.clone().stored(6, [residual, residual]);
+            let both_padded = beats_padded.clone().stored(6, [residual, residual]);
+            for padded in [beats_padded, residuals_padded, both_padded] {
+                assert_eq!(padded.read(1), Ok(read.to_vec()), "{byte:X}");
+                assert_eq!(padded.read(2), Ok(read.to_vec()), "{byte:X}");
+            }
+        }
+    }
 }
 
 #[test]

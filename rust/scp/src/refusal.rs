@@ -205,13 +205,15 @@ with the beat added.",
     }
     LEFT_OVER_BITS = 14 {
         name: "left-over bits",
-        rule: "fewer than 8 bits are left after the last sample",
+        rule: "at most 15 bits are left after the last sample",
         plain: "\
-When the last sample of a lead has been read, fewer than 8 bits of its stream are
-left. Where there are more, the stream and the number of samples do not agree.",
+When the last sample of a lead has been read, at most 15 bits of its stream are
+left. They are ignored, whatever they hold: some carts pad a lead to an even number
+of bytes. Where more are left, the stream and the number of samples do not agree.
+The same holds for the reference beat.",
         example: "\
-the stream of the second lead of samples/refused-14.scp has a byte
-too many, and 12 bits are left.",
+the stream of the second lead of samples/refused-14.scp has two
+bytes too many, and 20 bits are left.",
         given: Given::Streams,
     }
     NO_STREAM = 15 {

@@ -141,6 +141,7 @@ fn entries_say_what_reading_finds() {
         "limb-leads.scp",
         "own-tables.scp",
         "beat.scp",
+        "padded.scp",
     ] {
         let record = sample(name);
         let leads = scp::leads(&record).unwrap();
@@ -175,6 +176,7 @@ fn entries_say_what_reading_finds() {
 fn each_rule_is_asked_alone() {
     for (name, broken) in [
         ("beat.scp", None),
+        ("padded.scp", None),
         ("refused-2.scp", Some(2)),
         ("refused-7.scp", Some(7)),
         ("refused-8.scp", Some(8)),

@@ -18,13 +18,14 @@ use common::{
 use serde_json::{json, Value};
 
 /// The samples that are accepted, and how many leads are read.
-const ACCEPTED: [(&str, usize); 7] = [
+const ACCEPTED: [(&str, usize); 8] = [
     ("007.scp", 0),
     ("7.scp", 0),
     ("beat.scp", 2),
     ("limb-leads.scp", 6),
     ("makers-sections.scp", 0),
     ("own-tables.scp", 2),
+    ("padded.scp", 2),
     ("two-leads.scp", 2),
 ];
 

@@ -99,7 +99,7 @@ fn explanations_are_true_of_the_samples() {
         (10, &["Section 6"]),
         (12, &["sample 13"]),
         (13, &["sample 6", "32,820"]),
-        (14, &["12 bits are left"]),
+        (14, &["20 bits are left"]),
     ] {
         let told = run(&["--explain", &number.to_string()]).out;
         let told = told.replace('\n', " ");

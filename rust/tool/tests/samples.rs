@@ -10,7 +10,7 @@ use common::{run, samples, NOTE};
 use serde_json::Value;
 
 /// A sample, and the first line of `open` and of `fields` after its name.
-const SAMPLES: [(&str, i32, &str, &str); 20] = [
+const SAMPLES: [(&str, i32, &str, &str); 21] = [
     (
         "007.scp",
         0,
@@ -51,6 +51,12 @@ const SAMPLES: [(&str, i32, &str, &str); 20] = [
         "beat.scp",
         0,
         "accepted (418 bytes; 12 pointers, 7 sections present)",
+        "accepted (5 fields)",
+    ),
+    (
+        "padded.scp",
+        0,
+        "accepted (420 bytes; 12 pointers, 7 sections present)",
         "accepted (5 fields)",
     ),
     (
@@ -128,13 +134,13 @@ const SAMPLES: [(&str, i32, &str, &str); 20] = [
     (
         "refused-14.scp",
         0,
-        "accepted (408 bytes; 12 pointers, 5 sections present)",
+        "accepted (410 bytes; 12 pointers, 5 sections present)",
         "accepted (5 fields)",
     ),
 ];
 
 /// A sample that opens, and the status and the first line of `leads` and of `samples` after its name.
-const LEADS: [(&str, [(i32, &str); 2]); 14] = [
+const LEADS: [(&str, [(i32, &str); 2]); 15] = [
     (
         "007.scp",
         [(1, "absent, number 10 (196 bytes): the record has no leads"); 2],
@@ -179,6 +185,16 @@ const LEADS: [(&str, [(i32, &str); 2]); 14] = [
     ),
     (
         "beat.scp",
+        [
+            (
+                0,
+                "accepted (2 leads; flags 0x05, a reference beat was subtracted)",
+            ),
+            (0, "accepted (2 leads)"),
+        ],
+    ),
+    (
+        "padded.scp",
         [
             (
                 0,
@@ -260,7 +276,7 @@ fn all_samples_are_opened_at_once() {
     assert_eq!(ran.status, 1);
     assert!(ran
         .out
-        .ends_with("\n20 files: 14 accepted, 6 refused, 0 not read\n"));
+        .ends_with("\n21 files: 15 accepted, 6 refused, 0 not read\n"));
     for (name, _, line, _) in SAMPLES {
         assert!(ran.out.contains(&format!("{name}: {line}\n")), "{name}");
     }
@@ -341,7 +357,7 @@ fn a_refusal_of_leads_is_explained() {
         ("refused-10.scp", "found        Section 6 is absent\n"),
         ("refused-12.scp", "Section 6, lead 2: no value for sample 13: the stream ends inside the code at bit 47 of 48"),
         ("refused-13.scp", "sample 6 is 32,820 with beat sample 4 added"),
-        ("refused-14.scp", "Section 6, lead 2: 12 bits are left of 64 after the last sample"),
+        ("refused-14.scp", "Section 6, lead 2: 20 bits are left of 72 after the last sample"),
     ] {
         let ran = run(&["samples", name]);
         assert!(ran.out.contains(found), "{found}\n{}", ran.out);
@@ -391,6 +407,27 @@ Lead 2, II: samples 7 to 14, in steps of 5000 nV, 2000 us apart
    7     15    15     0  -128   127     1     1     1
 ";
     assert_eq!(ran.out, text);
+}
+
+/// Padding is ignored, whatever it holds: each form shows the samples of `beat.scp`.
+#[test]
+fn padded_leads_are_those_of_the_beat() {
+    for words in [
+        &["samples"][..],
+        &["samples", "--lead", "1"],
+        &["samples", "--lead", "2"],
+        &["samples", "--csv"],
+    ] {
+        let shown = |name| run(&[words, &[name]].concat());
+        let (padded, beat) = (shown("padded.scp"), shown("beat.scp"));
+        assert_eq!((padded.status, padded.err.as_str()), (0, ""), "{words:?}");
+        assert_eq!(padded.out.replace("padded.scp", "beat.scp"), beat.out);
+    }
+    let lead = |name| json(&["samples", name, "--json"])["leads"].take();
+    let (padded, beat) = (lead("padded.scp"), lead("beat.scp"));
+    for place in [0, 1] {
+        assert_eq!(padded[place]["samples"], beat[place]["samples"]);
+    }
 }
 
 #[test]

@@ -9,7 +9,7 @@ use std::process::{Command, Stdio};
 use std::time::{Duration, UNIX_EPOCH};
 
 use common::folder::Folder;
-use common::record::{put, seal, section};
+use common::record::{pad, put, seal, section};
 use common::{
     run, run_by_shell, run_on_terminal, run_with_input, sample, samples, tool, Ran, NOTE,
 };
@@ -408,11 +408,13 @@ fn a_record_that_would_lose_something_is_left_alone() {
         assert!(found, "{reason}\n{}", ran.out);
         assert_eq!(folder.names(), ["changed.scp"]);
     }
-    let ran = run(&["pack", "beat.scp", &out]);
-    assert_eq!(ran.status, 1);
-    let reason = "  a reference beat was subtracted from its leads";
-    assert!(ran.out.lines().any(|line| line == reason), "{}", ran.out);
-    assert_eq!(folder.names(), ["changed.scp"]);
+    for name in ["beat.scp", "padded.scp"] {
+        let ran = run(&["pack", name, &out]);
+        assert_eq!(ran.status, 1);
+        let reason = "  a reference beat was subtracted from its leads";
+        assert!(ran.out.lines().any(|line| line == reason), "{}", ran.out);
+        assert_eq!(folder.names(), ["changed.scp"]);
+    }
 }
 
 /// The leads of `own-tables.scp`, the second one cut so that Section 6 ends in a spare byte; Section 1 does too.
@@ -463,6 +465,51 @@ fn what_holds_nothing_is_no_loss() {
     assert_eq!(ran.status, 0, "{}", ran.out);
     assert!(ran.first_line().ends_with(": 5 saved)"), "{}", ran.out);
     assert_eq!(fs::read(&out).unwrap(), record);
+}
+
+/// Padding of a stream holds nothing either, whatever its bits are: it is taken away, and the samples stay. Both streams are
+/// odd here, so that none of the padding takes the place of a spare byte.
+#[test]
+fn padding_is_taken_away() {
+    let folder = Folder::new("padding");
+    let out = folder.path("out.scp");
+    let record = record_with([1, 1]);
+    for (byte, places) in [(0, &[1][..]), (0xFF, &[2]), (0x55, &[1, 2])] {
+        let mut padded = record.clone();
+        for &place in places {
+            pad(&mut padded, place, &[byte]);
+        }
+        let file = folder.file("padded.scp", &padded);
+        let ran = run(&["pack", &file, &out, "--force"]);
+        assert_eq!((ran.status, ran.err.as_str()), (0, ""), "{}", ran.out);
+        let packed = fs::read(&out).unwrap();
+        assert!(packed == record && packed.len() < padded.len());
+        for place in [1, 2] {
+            assert_eq!(scp::samples(&packed, place), scp::samples(&padded, place));
+            let bytes = [&padded, &packed].map(|record| scp::lead(record, place).unwrap().bytes);
+            let saved = usize::from(places.contains(&place));
+            assert_eq!(bytes[0] - bytes[1], saved, "lead {place}");
+        }
+    }
+}
+
+/// A byte more behind a lead is padding, and two are too many.
+#[test]
+fn too_much_padding_is_refused() {
+    let folder = Folder::new("too-much");
+    for (more, answer) in [
+        (&[0xFF][..], "accepted (2 leads)"),
+        (&[0xFF; 2], "1 of 2 leads refused"),
+    ] {
+        let mut padded = sample("two-leads.scp");
+        pad(&mut padded, 2, more);
+        let file = folder.file("padded.scp", &padded);
+        let ran = run(&["samples", &file]);
+        assert_eq!(ran.first_line(), format!("{file}: {answer}"));
+        assert_eq!(ran.status == 0, more.len() == 1, "{}", ran.out);
+        let found = "Section 6, lead 2: 16 bits are left of 144 after the last sample";
+        assert_eq!(ran.out.contains(found), more.len() == 2, "{}", ran.out);
+    }
 }
 
 /// Records that the judge wrote are packed as they can be: they come back byte for byte.
@@ -517,8 +564,13 @@ fn any_record_may_be_given() {
 
 /// The record of `job.json`, by the judge.
 fn job_record() -> Vec<u8> {
+    record_with([1, 2])
+}
+
+/// The same with the leads at these places of `limb-leads.scp`.
+fn record_with(places: [usize; 2]) -> Vec<u8> {
     let leads = sample("limb-leads.scp");
-    let samples: Vec<i16> = [1, 2]
+    let samples: Vec<i16> = places
         .map(|place| scp::samples(&leads, place).unwrap().1)
         .concat();
     let mut fields = vec![2, 4, 0, b'0', b'0', b'7', 0];

@@ -207,7 +207,7 @@ fn stored(edges: &mut Edges) {
 }
 
 /// The changes, and what reading the first lead gives after each.
-fn stored_changes() -> [(u8, &'static str, Change); 12] {
+fn stored_changes() -> [(u8, &'static str, Change); 14] {
     [
         (0, "as it is", |_| {}),
         (BROKEN, "with step 0", |stored| stored.step = 0),
@@ -221,15 +221,21 @@ fn stored_changes() -> [(u8, &'static str, Change); 12] {
         (BROKEN, "with one stream too many", |stored| {
             stored.streams.push(vec![0; 6]);
         }),
+        (0, "with a byte more for the first lead", |stored| {
+            stored.streams[0].push(0xFF);
+        }),
         (
             row::LEFT_OVER_BITS,
-            "with a byte more for the first lead",
+            "with two bytes more for the first lead",
             |stored| {
-                stored.streams[0].push(0);
+                stored.streams[0].extend([0; 2]);
             },
         ),
         (0, "with a byte more for the second lead", |stored| {
             stored.streams[1].push(0);
+        }),
+        (0, "with two bytes more for the second lead", |stored| {
+            stored.streams[1].extend([0; 2]);
         }),
         (0, "with nothing for the second lead", |stored| {
             stored.streams[1].clear();

@@ -11,6 +11,7 @@ use crate::rhythm::{
 pub fn add(edges: &mut Edges) {
     left_over(edges);
     left_over_otherwise(edges);
+    left_over_with_a_beat(edges);
     codes(edges);
     switches(edges);
     differences(edges);
@@ -28,7 +29,7 @@ fn lead(tables: &[u8], order: u8, count: u32, stream: Vec<u8>) -> Rhythm {
     rhythm
 }
 
-/// Bits and bytes after the last sample.
+/// Bits and bytes after the last sample: 15 bits are ignored, whatever they hold, and 16 are too many (01, row 14; Q-1).
 fn left_over(edges: &mut Edges) {
     let zeros = |count: usize| bits(&"0".repeat(count));
     for (refusal, samples, bytes) in [
@@ -36,9 +37,12 @@ fn left_over(edges: &mut Edges) {
         (0, 8, 1),
         (row::CODE, 9, 1),
         (0, 9, 2),
-        (row::LEFT_OVER_BITS, 8, 2),
-        (row::LEFT_OVER_BITS, 1, 2),
+        (0, 8, 2),
+        (0, 1, 2),
+        (0, 9, 3),
+        (row::LEFT_OVER_BITS, 8, 3),
         (row::LEFT_OVER_BITS, 1, 3),
+        (row::LEFT_OVER_BITS, 1, 4),
         (row::CODE, 1, 0),
     ] {
         let rhythm = lead(&DEFAULT_TABLE, 0, samples, zeros(8 * bytes));
@@ -48,19 +52,27 @@ fn left_over(edges: &mut Edges) {
             &rhythm,
         );
     }
-    edges.rhythm(
-        0,
-        "seven ones left over",
-        &lead(&DEFAULT_TABLE, 0, 1, bits("01111111")),
-    );
+    for (refusal, samples, ones) in [
+        (0, 1, 7),
+        (0, 8, 8),
+        (0, 1, 15),
+        (row::LEFT_OVER_BITS, 8, 16),
+        (row::LEFT_OVER_BITS, 1, 23),
+    ] {
+        let letters = "0".repeat(samples) + &"1".repeat(ones);
+        let rhythm = lead(&DEFAULT_TABLE, 0, samples as u32, bits(&letters));
+        edges.rhythm(refusal, format!("{ones} ones left over"), &rhythm);
+    }
 }
 
-/// The same where a switch is among the bits, and without tables.
+/// The same where a switch is among the bits left over, which is a bit as any other, and without tables.
 fn left_over_otherwise(edges: &mut Edges) {
     let two = tables(&[vec![value("0", 3), switch("1", 2)], vec![value("1", 4)]]);
     for (refusal, count, letters) in [
         (0, 1, "0 1"),
-        (row::LEFT_OVER_BITS, 1, "0 1 1 1 1 1 1 1 1"),
+        (0, 1, "0 1 1 1 1 1 1 1 1"),
+        (row::LEFT_OVER_BITS, 8, "00000000 1 1 1 1 1 1 1 1 1"),
+        (row::LEFT_OVER_BITS, 1, "0 1 1 1 1 1 1 1 11111111 1"),
         (0, 2, "0 1 1 1 1 1 1 1"),
         (0, 9, "0 1 1 1 1 1 1 1 1 1"),
     ] {
@@ -70,16 +82,50 @@ fn left_over_otherwise(edges: &mut Edges) {
     for (refusal, count, bytes) in [
         (0, 3, 6),
         (row::CODE, 3, 5),
-        (row::LEFT_OVER_BITS, 3, 7),
+        (0, 3, 7),
         (row::CODE, 3, 4),
         (row::LEFT_OVER_BITS, 3, 8),
+        (row::LEFT_OVER_BITS, 3, 9),
+        (0, 32_767, 65_535), // as long as a stream may be
     ] {
-        let rhythm = lead(&[], 0, count, vec![1; bytes]);
-        edges.rhythm(
-            refusal,
-            format!("{count} samples of two bytes in {bytes}"),
-            &rhythm,
-        );
+        for byte in [0, 1, 0xFF] {
+            let rhythm = lead(&[], 0, count, vec![byte; bytes]);
+            let name = format!("{count} samples of two bytes in {bytes} of {byte}");
+            edges.rhythm(refusal, name, &rhythm);
+        }
+    }
+}
+
+/// The same in the beat's stream alone, and in the residual's alone: without tables, and by the default table in streams that
+/// leave none of their bits or 7.
+fn left_over_with_a_beat(edges: &mut Edges) {
+    for (refusal, more) in [
+        (0, &[0][..]),
+        (0, &[0xFF]),
+        (row::LEFT_OVER_BITS, &[0; 2]),
+        (row::LEFT_OVER_BITS, &[0xFF; 2]),
+    ] {
+        for (tables, beat, residual) in [
+            (&[][..], two_bytes(&[9, 1, 9, 9, 9]), two_bytes(&[5, 6, 7])),
+            (&DEFAULT_TABLE, bits("1100 0 0 0 0"), bits("1100 100 0")),
+            (&DEFAULT_TABLE, bits("100 100 0 0 0"), bits("100 100 100")),
+        ] {
+            for section in [5, 6] {
+                let mut rhythm = beaten_by(tables, beat.clone(), residual.clone(), [0, 0]);
+                stream_of(&mut rhythm, section).extend(more);
+                let name =
+                    format!("{more:?} more in Section {section}, with {beat:?}, {residual:?}");
+                edges.rhythm(refusal, name, &rhythm);
+            }
+        }
+    }
+}
+
+/// The first lead's stream in Section 5 or 6.
+fn stream_of(rhythm: &mut Rhythm, section: u16) -> &mut Vec<u8> {
+    match (&mut rhythm.beat, section) {
+        (Some(beat), 5) => &mut beat.stored.streams[0],
+        _ => &mut rhythm.stored.streams[0],
     }
 }
 
@@ -161,16 +207,22 @@ fn differences(edges: &mut Edges) {
     }
 }
 
-/// Three samples with a beat of N 5 and F 3: its sample 2 is added to sample 2 of the lead.
+/// Three samples with a beat of N 5 and F 3: its sample 2 is added to sample 2 of the lead. Without tables.
 fn beaten(beat: &[i16], residual: &[i16], orders: [u8; 2]) -> Rhythm {
+    beaten_by(&[], two_bytes(beat), two_bytes(residual), orders)
+}
+
+/// The same by this Section 2, empty if there is none, with these streams in both leads.
+fn beaten_by(tables: &[u8], beat: Vec<u8>, residual: Vec<u8>, orders: [u8; 2]) -> Rhythm {
     let mut rhythm = two_leads();
+    rhythm.tables = tables.to_vec();
     rhythm.flags = 1;
-    rhythm.stored = Stored::new(orders[1], vec![two_bytes(residual); 2]);
+    rhythm.stored = Stored::new(orders[1], vec![residual; 2]);
     rhythm.beat = Some(Beat {
         length: 10,
         fiducial: 3,
         qrs: vec![zone(2, 3, 2)],
-        stored: Stored::new(orders[0], vec![two_bytes(beat); 2]),
+        stored: Stored::new(orders[0], vec![beat; 2]),
     });
     rhythm
 }

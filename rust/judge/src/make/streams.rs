@@ -1,11 +1,12 @@
-//! Streams of random codes, at times put in the shortest form, with the samples they decode to.
+//! Streams of random codes, at times put in the shortest form or padded, with the samples they
+//! decode to.
 
 use super::rng::Rng;
 use super::tables::alive;
 use crate::bounds;
 use crate::differences::foreseen;
 use crate::encoding;
-use crate::stream::Put;
+use crate::stream::{Put, Values};
 use crate::tables::{Meaning, Structure, Tables};
 
 /// How a stream is drawn.
@@ -36,7 +37,20 @@ pub fn draw(rng: &mut Rng, how: &Draw, added: &[i16]) -> Drawn {
             drawn.stream = shortest.bytes();
         }
     }
+    pad(rng, &mut drawn.stream);
     drawn
+}
+
+/// At times one more byte, of any value, which is ignored (01, row 14; Q-1): often to an even number
+/// of bytes, as some carts pad; now and then to an odd one, as a stream without tables gets it.
+fn pad(rng: &mut Rng, stream: &mut Vec<u8>) {
+    let is_padded = match stream.len() % 2 {
+        1 => rng.coin(),
+        _ => rng.one_in(4),
+    };
+    if is_padded && stream.len() < bounds::STREAM {
+        stream.push(rng.byte());
+    }
 }
 
 /// The numbers to which the next value is added.
@@ -213,5 +227,49 @@ fn fill_up(rng: &mut Rng, stream: &mut [u8], bits: usize) {
     let unused = stream.len() * 8 - bits;
     if let Some(last) = stream.last_mut() {
         *last |= rng.byte() & ((1u32 << unused) - 1) as u8;
+    }
+}
+
+/// The bits that are left of a stream after so many values; `None` if it has fewer values.
+pub fn left_over(stream: &[u8], tables: Option<&Tables>, count: usize) -> Option<usize> {
+    let mut values = Values::new(stream, tables);
+    let is_read = (0..count).all(|_| values.next().is_ok());
+    is_read.then(|| values.bits_left())
+}
+
+#[cfg(test)]
+mod tests {
+    use super::{draw, left_over, Draw};
+    use crate::make::rng::Rng;
+    use crate::reading::MOST_LEFT_OVER;
+    use crate::tables::Tables;
+    use crate::vectors::tables_named;
+
+    /// How often so many bits are left over of a drawn stream.
+    fn drawn_left_over(tables: Option<&Tables>) -> Vec<usize> {
+        let mut counts = vec![0; MOST_LEFT_OVER + 1];
+        for seed in 0..2_000 {
+            let rng = &mut Rng::new(seed);
+            let how = Draw {
+                tables,
+                order: rng.below(3) as u8,
+                count: 1 + rng.small(50),
+                calm: rng.coin(),
+            };
+            let drawn = draw(rng, &how, &[]);
+            let left = left_over(&drawn.stream, tables, drawn.samples.len());
+            counts[left.expect("it has its samples")] += 1;
+        }
+        counts
+    }
+
+    #[test]
+    fn padded_streams_are_drawn_often() {
+        for tables in ["default", "example"].map(tables_named) {
+            let counts = drawn_left_over(Some(&tables));
+            assert!(counts.iter().all(|&count| count > 20), "{counts:?}");
+        }
+        let counts = drawn_left_over(None);
+        assert!(counts[0] > 200 && counts[8] > 200, "{counts:?}");
     }
 }

@@ -28,3 +28,28 @@ pub fn seal(record: &mut [u8]) {
     let check = judge::crc(&record[2..]);
     record[..2].copy_from_slice(&check.to_le_bytes());
 }
+
+/// Puts more bytes behind the stream of the lead at a place, from 1, in a record whose last section is Section 6.
+pub fn pad(record: &mut Vec<u8>, place: usize, more: &[u8]) {
+    let start = section(record, 6);
+    let leads = usize::from(record[section(record, 3) + 16]);
+    let count_at = |place: usize| start + 16 + 6 + 2 * (place - 1);
+    let count = |record: &[u8], place| {
+        let at = count_at(place);
+        usize::from(u16::from_le_bytes([record[at], record[at + 1]]))
+    };
+    let end = |record: &[u8], place: usize| {
+        let before: usize = (1..=place).map(|place| count(record, place)).sum();
+        count_at(leads + 1) + before
+    };
+    record.truncate(end(record, leads)); // without a spare byte
+    let at = end(record, place);
+    record.splice(at..at, more.iter().copied());
+    let padded = (count(record, place) + more.len()) as u16;
+    record[count_at(place)..][..2].copy_from_slice(&padded.to_le_bytes());
+    record.resize(start + (record.len() - start).next_multiple_of(2), 0);
+    let length = record.len() - start;
+    put(record, start + 4, length);
+    put(record, 6 + 16 + 60 + 2, length);
+    seal(record);
+}

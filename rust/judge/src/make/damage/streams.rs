@@ -4,6 +4,8 @@
 use crate::make::draft::Draft;
 use crate::make::rhythm::Rhythm;
 use crate::make::rng::Rng;
+use crate::make::streams::left_over;
+use crate::reading::MOST_LEFT_OVER;
 use crate::stream::Put;
 use crate::tables::Tables;
 
@@ -21,20 +23,20 @@ pub fn run_out(rng: &mut Rng, draft: &mut Draft) {
         match rng.below(4) {
             0 => stream.clear(),
             1 => stream.truncate(rng.below(stream.len().max(1))),
-            2 => stream.truncate(stream.len().saturating_sub(1)),
+            // of a padded one the first byte cut is no loss
+            2 => stream.truncate(stream.len().saturating_sub(rng.within(1..=2))),
             _ => stream.fill_with(|| rng.byte()),
         }
     });
     draft.renew(rng);
 }
 
-/// Row 14, in Section 6 or 5.
+/// Row 14, in Section 6 or 5: fewer samples than the stream has, or one to three bytes more than it
+/// had. One alone is allowed where the stream is not padded, so that both sides of the bound are met.
 pub fn leave_over(rng: &mut Rng, draft: &mut Draft) {
-    with_rhythm(draft, |rhythm, _| {
+    with_rhythm(draft, |rhythm, tables| {
         let lead = rng.below(rhythm.leads.len());
-        let samples = &mut rhythm.leads[lead].samples;
-        if samples.len() > 8 && rng.one_in(3) {
-            samples.truncate(samples.len() - rng.within(1..=8));
+        if rng.one_in(3) && drop_samples(rng, rhythm, tables, lead) {
             return;
         }
         let more = rng.bytes_within(1..=3);
@@ -44,6 +46,22 @@ pub fn leave_over(rng: &mut Rng, draft: &mut Draft) {
         }
     });
     draft.renew(rng);
+}
+
+/// Takes just so many samples from a lead's end that too many bits are left over, now and then one
+/// fewer; whether it has so many.
+fn drop_samples(rng: &mut Rng, rhythm: &mut Rhythm, tables: Option<&Tables>, lead: usize) -> bool {
+    let stream = &rhythm.streams[lead];
+    let samples = &mut rhythm.leads[lead].samples;
+    let leaves_too_many = |count: &usize| {
+        let left = left_over(stream, tables, *count);
+        left.is_some_and(|left| left > MOST_LEFT_OVER)
+    };
+    let most = (1..samples.len()).rev().find(leaves_too_many);
+    if let Some(most) = most {
+        samples.truncate(most + usize::from(rng.one_in(3)));
+    }
+    most.is_some()
 }
 
 /// Row 13: in a residual, a beat or a sum. By tables of its own a record may get other streams than
@@ -148,4 +166,56 @@ fn overflow_sum(rng: &mut Rng, rhythm: &mut Rhythm, tables: Option<&Tables>) {
     rhythm.order = 0;
     rhythm.leads[lead].samples.truncate(count);
     rhythm.streams[lead] = coded(tables, &values);
+}
+
+#[cfg(test)]
+mod tests {
+    use super::leave_over;
+    use crate::make::draft::{Coding, Draft, Holds, Wish};
+    use crate::make::rng::Rng;
+    use crate::make::streams::left_over;
+    use crate::reading::MOST_LEFT_OVER;
+
+    /// The bits left over of each stream of Sections 5 and 6.
+    fn all_left_over(draft: &Draft) -> Vec<usize> {
+        let Some(rhythm) = &draft.rhythm else {
+            return Vec::new();
+        };
+        let residuals = rhythm.leads.iter().map(|lead| lead.samples.len());
+        let residuals = residuals.zip(&rhythm.streams);
+        let beats = rhythm.beat.iter().flat_map(|beat| {
+            let counts = beat.samples.iter().map(Vec::len);
+            counts.zip(&beat.streams)
+        });
+        let left = |(count, stream): (usize, &Vec<u8>)| {
+            left_over(stream, draft.tables.as_ref(), count).expect("it has its samples")
+        };
+        residuals.chain(beats).map(left).collect()
+    }
+
+    #[test]
+    fn both_sides_of_the_bound_are_met() {
+        for (coding, most) in [
+            (Coding::TwoBytes, 8),
+            (Coding::Default, MOST_LEFT_OVER),
+            (Coding::Own, MOST_LEFT_OVER),
+        ] {
+            let (mut allowed, mut refused) = (0, 0);
+            for seed in 0..600 {
+                let rng = &mut Rng::new(seed);
+                let wish = Wish {
+                    coding: Some(coding),
+                    holds: Some(rng.pick(&[Holds::Leads, Holds::Beat])),
+                };
+                let mut draft = Draft::new(rng, wish);
+                leave_over(rng, &mut draft);
+                let left = all_left_over(&draft);
+                allowed += left.iter().filter(|&&left| left == most).count();
+                let over = |&&left: &&usize| left == MOST_LEFT_OVER + 1;
+                refused += left.iter().filter(over).count();
+            }
+            println!("{coding:?}: {most} bits left {allowed} times, one too many {refused} times");
+            assert!(allowed > 10 && refused > 10, "{coding:?}");
+        }
+    }
 }
