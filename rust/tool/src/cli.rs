@@ -249,8 +249,8 @@ pub enum Command {
     /// with other sections than 0, 1, 2, 3 and 6, with more than twelve pointers or an
     /// index at one that is absent, with a reference beat subtracted, with version
     /// bytes that are not all the same, or with reserved, spare or gap bytes that are
-    /// not 0. Bits that fill up a stream's last byte are not counted: the stream is
-    /// what is replaced.
+    /// not 0. Bits left over behind a lead's last sample, padding too, are no loss: the
+    /// stream is what is replaced.
     ///
     /// OUT gets the permissions of IN.
     #[command(verbatim_doc_comment, after_help = WRITING)]
