@@ -35,7 +35,8 @@ use Rattle.answers.proofs.Cases.{Case, first, second, third, fourth, Ap
 
 -- ---- what is rebuilt to samples begins with a stream for their differences
 
-record Begins (tables : List (List Structure)) (t : ℕ) (bs : List ℕ) (vs : List ℤ) : Type 0 where
+record Begins (tables : List (List Structure)) (t : ℕ) (bs : List ℕ) (xs vs : List ℤ) : Type 0 where
+  pub fit : every fits16 xs ≡ true
   pub stream : List ℕ
   pub rest : List ℕ
   pub whole : stream ++ rest ≡ bs
@@ -45,23 +46,27 @@ record Begins (tables : List (List Structure)) (t : ℕ) (bs : List ℕ) (vs : L
 -- a trace behind a sample is a trace of samples where the whole is
 record Behind (x y : ℤ) (xs : List ℤ) (t : Trace) : Type 0 where
   pub sample : y ≡ x
+  pub fits : fits16 x ≡ true
   pub later : t ≡ rebuilt xs
 
 behind-one : (y x : ℤ) (xs : List ℤ) (t : Trace) → afterSample (λ z. t) y ≡ rebuilt (x ∷ xs) → Behind x y xs t
 unfolding afterSample
-behind-one y x xs t h = go (fits16 y) t h
+behind-one y x xs t h = go (fits16 y) refl t h
   where
-    go : (b : Bool) (t : Trace) → cond b (behind y t) (fault 13) ≡ rebuilt (x ∷ xs) → Behind x y xs t
-    go true (rebuilt ys) e = record { sample = cc; later = let q : ys ≡ xs = cc in ap rebuilt q }
-    go true (fault n) e = unlike cc
-    go false t e = unlike cc
+    go : (b : Bool) → fits16 y ≡ b → (t : Trace) → cond b (behind y t) (fault 13) ≡ rebuilt (x ∷ xs) → Behind x y xs t
+    go true f (rebuilt ys) e =
+        let p : y ≡ x = cc in
+        let q : ys ≡ xs = cc in
+        record { sample = p; fits = rw (← p) f; later = ap rebuilt q }
+    go true f (fault n) e = unlike cc
+    go false f t e = unlike cc
 
 module _ (n : ℕ) (tables : List (List Structure)) (right : every (tableRight n) tables ≡ true) (order : ℕ) where
   begins : (xs : List ℤ) (place : ℕ) (last other : ℤ) (t : ℕ) (bs : List ℕ) → Small bs
-      → rebuildFrom tables order (length xs) place last other t bs ≡ rebuilt xs → Begins tables t bs (storedFrom order place last other xs)
-  unfolding rebuildFrom storedFrom afterSample
+      → rebuildFrom tables order (length xs) place last other t bs ≡ rebuilt xs → Begins tables t bs xs (storedFrom order place last other xs)
+  unfolding rebuildFrom storedFrom afterSample every
   begins [] place last other t bs small h =
-      record { stream = []; rest = bs; whole = refl; reads = done; few = few-left (leb (length bs) mostLeftOver) refl h }
+      record { fit = refl; stream = []; rest = bs; whole = refl; reads = done; few = few-left (leb (length bs) mostLeftOver) refl h }
     where
       few-left : (b : Bool) → leb (length bs) mostLeftOver ≡ b → cond b (rebuilt []) (fault 14) ≡ rebuilt [] → length bs ≤ mostLeftOver
       few-left true e g = leb-true (length bs) mostLeftOver e
@@ -72,8 +77,8 @@ module _ (n : ℕ) (tables : List (List Structure)) (right : every (tableRight n
           (λ v next rest. afterSample (λ y. rebuildFrom tables order (length xs) (place + 1) y last next rest) (sampleOf order place v last other))
           o ≡ rebuilt (x ∷ xs)
           → ((next : ℕ) (rest : List ℕ) → Small rest → rebuildFrom tables order (length xs) (place + 1) x last next rest ≡ rebuilt xs
-          → Begins tables next rest (storedFrom order (place + 1) x last xs))
-          → Begins tables t bs (storedOf order place x last other ∷ storedFrom order (place + 1) x last xs)
+          → Begins tables next rest xs (storedFrom order (place + 1) x last xs))
+          → Begins tables t bs (x ∷ xs) (storedOf order place x last other ∷ storedFrom order (place + 1) x last xs)
       go stuck e g later = unlike cc
       go (gave v next rest) e g later =
           let y = sampleOf order place v last other in
@@ -82,6 +87,7 @@ module _ (n : ℕ) (tables : List (List Structure)) (right : every (tableRight n
           let f = later next rest (c .small) (rw (b .sample) at (b .later)) in
           let v-is : v ≡ storedOf order place x last other = rw (← b .sample) (sym (stored-sample order place v last other)) in
           record {
+            fit = rw (b .fits, f .fit);
             stream = c .word ++ f .stream;
             rest = f .rest;
             whole = append-assoc (c .word) (f .stream) (f .rest) ∙ rw (f .whole) (c .whole);
@@ -113,6 +119,11 @@ module _ (n : ℕ) (tables : List (List Structure)) (right : every (tableRight n
         reads = record { bits = small-bits (b .stream) (rw (take-append-seam (b .stream) (b .rest)) at own); reads = b .reads };
         few = b .few;
       }
+
+  -- and they have 16 bits each
+  pub samples-fit : (xs : List ℤ) (bs : List ℕ) → StreamFor tables order xs bs → every fits16 xs ≡ true
+  unfolding rebuild
+  samples-fit xs bs s = begins xs 0 (pos 0) (pos 0) 1 bs (bits-small bs (s .bits)) (s .reads) .fit
 
   -- the one is so exactly if the other is
   pub undone : (xs : List ℤ) (bs : List ℕ) → every fits16 xs ≡ true → StreamFor tables order xs bs ↔ BeginsWithStream mostLeftOver tables order xs bs

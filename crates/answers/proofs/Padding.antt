@@ -14,7 +14,7 @@ use Rattle.bits.proofs.Laws.{length-bitsIn, bitsIn-append, small-bitsIn}
 use Rattle.tables.specs.declared.Structure.{Structure}
 use Rattle.tables.specs.Section2.{tableRight}
 use Rattle.samples.specs.Differences.{differences}
-use Rattle.samples.specs.Trace.{rebuilt, fault, fits16}
+use Rattle.samples.specs.Trace.{rebuilt, fault}
 use Rattle.samples.proofs.Laws.{length-differences}
 use Rattle.traces.specs.Rebuilding.{mostLeftOver, rebuild}
 use Rattle.rules.specs.LeadRules.{tablesRight, beatSubtracted, beatSampleCount, leadRefusal}
@@ -24,11 +24,11 @@ use Rattle.shortest.specs.InnerRule.{plainBits, plainBytes}
 use Rattle.shortest.proofs.Laws.{bits-small, small-bits}
 use Rattle.shortest.proofs.Plain.{plain-only, length-plainBytes}
 use Rattle.trip.proofs.Traces.{left-over}
-use Rattle.answers.specs.Demands.{AllKept, rowsRead}
-use Rattle.answers.specs.Padding.{NoByteOver, SameOrPadded, same, padded, StreamsAlike, SameSection, BeatsAlike, LeadsAlike, Padding}
+use Rattle.answers.specs.Demands.{AllKept, rowsRead, StreamFor}
+use Rattle.answers.specs.Padding.{mostLeftInByte, NoByteOver, SameOrPadded, same, padded, StreamsAlike, SameSection, BeatsAlike, LeadsAlike, Padding}
 use Rattle.answers.proofs.Laws.{none-broken}
 use Rattle.answers.proofs.Refusals.{reading, streamed}
-use Rattle.answers.proofs.Fewest.{inside}
+use Rattle.answers.proofs.Fewest.{inside, samples-fit}
 use Rattle.answers.proofs.Acceptance.{record-right}
 
 -- ---- whole bytes behind a stream that has no byte over
@@ -65,14 +65,15 @@ unfolding every
 no-tables = refl
 
 -- two bytes a sample leave nothing over
-two-bytes-each : (order : ℕ) (xs : List ℤ) (s : List ℕ) → every fits16 xs ≡ true → length s ≡ 2 * length xs
+two-bytes-each : (order : ℕ) (xs : List ℤ) (s : List ℕ) → length s ≡ 2 * length xs
     → rebuild [] order (length xs) (bitsIn s) ≡ rebuilt xs → NoByteOver [] order xs s
 unfolding plainBits
-two-bytes-each order xs s fit e h =
-    let b = inside 0 [] no-tables order xs (bitsIn s) (record { bits = small-bits (bitsIn s) (small-bitsIn s); reads = h }) in
+two-bytes-each order xs s e h =
+    let whole : StreamFor [] order xs (bitsIn s) = record { bits = small-bits (bitsIn s) (small-bitsIn s); reads = h } in
+    let b = inside 0 [] no-tables order xs (bitsIn s) whole in
     let own = ap length (plain-only (bits-small (b .stream) (b .reads .bits)) (b .reads .reads)) in
     let vs = differences order xs in
-    let none : length (b .rest) ≤ 7 =
+    let none : length (b .rest) ≤ mostLeftInByte =
     omega (
       arith,
       own,
@@ -84,6 +85,7 @@ two-bytes-each order xs s fit e h =
       length-append (b .stream) (b .rest),
       e,
     ) in
+    let fit = samples-fit 0 [] no-tables order xs (bitsIn s) whole in
     record { fit = fit; stream = record { bits = b .bits; stream = b .stream; rest = b .rest; whole = b .whole; reads = b .reads; few = none } }
 
 -- ---- leads of two records
@@ -152,8 +154,8 @@ padding = record {
   );
   two-bytes = λ r order xs s b c right u.
       two-refused (length (tablesOf r)) (tablesOf r) (record-right r right) order xs s u (b ∷ (c ∷ [])) (omega arith);
-  two-a-value = λ order xs s b c fit e h.
-      let u = two-bytes-each order xs s fit e h in
+  two-a-value = λ order xs s b c e h.
+      let u = two-bytes-each order xs s e h in
       (one-ignored 0 [] no-tables order xs s u (b ∷ []) (omega arith), two-refused 0 [] no-tables order xs s u (b ∷ (c ∷ [])) (omega arith));
   same-trace = same-trace;
   same-reading = same-reading;

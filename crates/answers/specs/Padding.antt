@@ -21,10 +21,14 @@ use Rattle.leads.specs.LeadTrace.{tablesOf, sampleCountAt, traceAt, readTrace}
 use Rattle.shortest.specs.Shortest.{Stream}
 use Rattle.answers.specs.Demands.{AllKept, rowsRead, BeginsWithStream}
 
+-- how many bits may be left of the byte in which a stream ends
+abbrev pub mostLeftInByte : ℕ
+mostLeftInByte = 7
+
 -- a stream for these samples of 16 bits, with no byte over: fewer than 8 bits follow the code of the last sample
 pub record NoByteOver (tables : List (List Structure)) (order : ℕ) (xs : List ℤ) (s : List ℕ) : Type 0 where
   pub fit : every fits16 xs ≡ true
-  pub stream : BeginsWithStream 7 tables order xs (bitsIn s)
+  pub stream : BeginsWithStream mostLeftInByte tables order xs (bitsIn s)
 
 -- ---- leads of two records that are alike but for padding, in all that a trace depends on
 
@@ -75,7 +79,7 @@ pub record Padding : Type 0 where
   pub two-bytes : (r : List ℕ) (order : ℕ) (xs : List ℤ) (s : List ℕ) (b c : ℕ) → tablesRight r ≡ true → NoByteOver (tablesOf r) order xs s
       → rebuild (tablesOf r) order (length xs) (bitsIn (s ++ (b ∷ (c ∷ [])))) ≡ fault 14
   -- Without Section 2 a value has two bytes: a lead with one byte over is read to the same samples, and with two it gives 14
-  pub two-a-value : (order : ℕ) (xs : List ℤ) (s : List ℕ) (b c : ℕ) → every fits16 xs ≡ true → length s ≡ 2 * length xs
+  pub two-a-value : (order : ℕ) (xs : List ℤ) (s : List ℕ) (b c : ℕ) → length s ≡ 2 * length xs
       → rebuild [] order (length xs) (bitsIn s) ≡ rebuilt xs
       → (rebuild [] order (length xs) (bitsIn (s ++ (b ∷ []))) ≡ rebuilt xs)
       × (rebuild [] order (length xs) (bitsIn (s ++ (b ∷ (c ∷ [])))) ≡ fault 14)

@@ -1,4 +1,4 @@
--- Bits behind a stream for a lead's differences: up to 15 are ignored, and more are 14. So a packed stream is rebuilt to the samples.
+-- Bits behind a stream for a lead's differences: up to 15 are ignored, and more give 14. So a packed stream is rebuilt to the samples.
 -- Assumes nothing.
 use Prim.Native.Nat.{ℕ, _+_, _-_, _*_, _≤_}
 use mathlib.Core.Path.{_≡_, refl, _∙_}
