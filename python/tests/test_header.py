@@ -31,7 +31,7 @@ class Header(Case):
             for kind, names in re.findall(r"(\w+) ([\w, ]+);", body):
                 fields += [(field.strip(), type_named(kind)) for field in names.split(",")]
             self.assertEqual(getattr(_library, name)._fields_, fields, name)
-        self.assertEqual(len(structures), 7)
+        self.assertEqual(len(structures), 9)
 
     def test_functions(self):
         functions = re.findall(r"^(\w+) (scp_\w+)\((.*?)\);", HEADER, re.DOTALL | re.MULTILINE)
@@ -39,12 +39,12 @@ class Header(Case):
             name: (type_named(answer), [type_given(one) for one in given.split(",")]) for answer, name, given in functions
         }
         self.assertEqual(_library.PROTOTYPES, expected)
-        self.assertEqual(len(functions), 11)
+        self.assertEqual(len(functions), 14)
 
     def test_bounds(self):
         bounds = re.findall(r"#define (SCP_\w+) (\d+)$", HEADER, re.MULTILINE)
         for name, value in bounds:
             self.assertEqual(getattr(_library, name), int(value), name)
-        self.assertEqual(len(bounds), 6)
+        self.assertEqual(len(bounds), 7)
         self.assertIn("#define SCP_POINTERS_ROOM (3 * SCP_POINTERS_MAX)", HEADER)
         self.assertEqual(_library.SCP_POINTERS_ROOM, 3 * _library.SCP_POINTERS_MAX)

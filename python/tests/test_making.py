@@ -31,7 +31,8 @@ class Library(Case):
 
 class Docs(Case):
     def test_every_field_has_its_words(self):
-        for kind in [tigmavresh.Pointer, tigmavresh.Field, tigmavresh.Entry, tigmavresh.Coded, tigmavresh.NewLead]:
+        kinds = [tigmavresh.Pointer, tigmavresh.Field, tigmavresh.Entry, tigmavresh.IndexEntry]
+        for kind in [*kinds, tigmavresh.Coded, tigmavresh.NewLead]:
             for name in kind._fields:
                 self.assertRegex(kind.__doc__, f"(?m)^ *{name}: ", kind.__name__)
         for name in tigmavresh.Lead.__dataclass_fields__:

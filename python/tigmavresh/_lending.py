@@ -21,13 +21,13 @@ def bytes_of(data: Bytes) -> bytes:
         return view.tobytes()
 
 
-def record_of(data: Bytes) -> bytes:
-    """The bytes of a record, as `bytes_of` has them."""
+def record_of(call: str, data: Bytes) -> bytes:
+    """The bytes of a record that a call is given, as `bytes_of` has them."""
     try:
         return bytes_of(data)
     except TypeError:
         raise TypeError(
-            f"open takes a record's bytes, not a path or an open file, and this is {type(data).__name__}: "
+            f"{call} takes a record's bytes, not a path or an open file, and this is {type(data).__name__}: "
             "pathlib.Path(name).read_bytes() gives a file's bytes"
         ) from None
 

@@ -17,6 +17,7 @@ SCP_LEADS_MAX = 32
 SCP_TABLES_MAX = 8
 SCP_STREAM_MAX = 65535
 SCP_RECORD_MAX = 1048576
+SCP_INDEX_ENTRY_MAX = 68
 
 
 class ScpOpened(ctypes.Structure):
@@ -66,6 +67,23 @@ class ScpWritten(ctypes.Structure):
     _fields_ = [("refusal", c_uint8), ("bytes", c_uint32)]
 
 
+class ScpIndexed(ctypes.Structure):
+    _fields_ = [("refusal", c_uint8), ("used", c_size_t)]
+
+
+class ScpIndexEntry(ctypes.Structure):
+    _fields_ = [
+        ("more", c_uint8),
+        ("month", c_uint8),
+        ("day", c_uint8),
+        ("leads", c_uint8),
+        ("year", c_uint16),
+        ("start", c_size_t),
+        ("length", c_size_t),
+        ("next", c_size_t),
+    ]
+
+
 # Lent memory: its address, and how many elements there are.
 LENT = [c_void_p, c_size_t]
 
@@ -85,6 +103,9 @@ PROTOTYPES = {
         ScpWritten,
         LENT + LENT + [c_uint8, c_uint8, c_uint16, c_uint16, c_uint8] + LENT + LENT + LENT + LENT + LENT + LENT,
     ),
+    "scp_index_add": (ScpIndexed, LENT + [c_size_t] + LENT),
+    "scp_index_find": (ScpPart, LENT + [c_size_t] + LENT),
+    "scp_index_step": (ScpIndexEntry, LENT + [c_size_t]),
 }
 
 

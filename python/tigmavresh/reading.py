@@ -116,7 +116,7 @@ class Record:
     """
 
     def __init__(self, data: Bytes) -> None:
-        self._data = record_of(data)
+        self._data = record_of("open", data)
         room = (ctypes.c_uint32 * SCP_POINTERS_ROOM)()
         opened = scp.scp_open(self._data, len(self._data), room)
         check(opened.refusal)

@@ -3,7 +3,7 @@
  * looks at each answer and at the memory around it, so that header and archive cannot part.
  *
  * The right answers are written in these files by hand from the rules; the CRCs of the records are made by a loop of this
- * file's own. Leads are read from files of samples/, whose folder is named on the command line.
+ * file's own. Leads are read from files of samples/, and indexes made of them; the folder is named on the command line.
  */
 #include "check.h"
 
@@ -40,6 +40,23 @@ uint16_t check_of(const uint8_t *p, size_t n) {
     return (uint16_t)sum;
 }
 
+static const char *samples;
+
+uint8_t file[FILE_MAX];
+size_t file_size;
+
+void load(const char *name) {
+    char path[4096];
+    snprintf(path, sizeof path, "%s/%s", samples, name);
+    FILE *from = fopen(path, "rb");
+    if (!from) {
+        perror(path);
+        exit(2);
+    }
+    file_size = fread(file, 1, FILE_MAX, from);
+    fclose(from);
+}
+
 /* ---- lent memory, with guards on both sides */
 
 #define GUARD 0xA5C3A5C3u
@@ -72,10 +89,12 @@ int main(int count, char **words) {
         fprintf(stderr, "usage: c-check SAMPLES\n");
         return 2;
     }
+    samples = words[1];
     check_opening();
-    check_leads(words[1]);
+    check_leads();
     check_encoding();
     check_writing();
+    check_index();
     printf("c: %u checks\n", checks);
     if (failures) printf("c: %u FAILED\n", failures);
     return failures != 0;

@@ -18,9 +18,10 @@ void expect(int holds, const char *file, int line, const char *words);
 /* ---- the parts */
 
 void check_opening(void);
-void check_leads(const char *samples);
+void check_leads(void);
 void check_encoding(void);
 void check_writing(void);
+void check_index(void);
 
 /* ---- bytes to start from */
 
@@ -35,6 +36,12 @@ extern const uint8_t default_table[2];
 
 /* The check, bit by bit: not by the library. */
 uint16_t check_of(const uint8_t *p, size_t n);
+
+/* A file of samples/, which `load` reads, or ends the program. */
+enum { FILE_MAX = 4096 };
+extern uint8_t file[FILE_MAX];
+extern size_t file_size;
+void load(const char *name);
 
 /* ---- lent memory, with guards on both sides */
 

@@ -3,26 +3,8 @@
  */
 #include "check.h"
 
-static const char *samples;
-
-enum { FILE_MAX = 4096, LEAD_ROOM = 64 };
+enum { LEAD_ROOM = 64 };
 static const int16_t LEAD_GUARD = 0x5A3C;
-
-static uint8_t file[FILE_MAX];
-static size_t file_size;
-
-/* Reads a file of samples/, or ends the program. */
-static void load(const char *name) {
-    char path[4096];
-    snprintf(path, sizeof path, "%s/%s", samples, name);
-    FILE *from = fopen(path, "rb");
-    if (!from) {
-        perror(path);
-        exit(2);
-    }
-    file_size = fread(file, 1, FILE_MAX, from);
-    fclose(from);
-}
 
 /* Output and work space, with guards on both sides. */
 static int16_t out[GUARDS + LEAD_ROOM + GUARDS], work[GUARDS + LEAD_ROOM + GUARDS];
@@ -172,8 +154,7 @@ static void refused_leads(void) {
     }
 }
 
-void check_leads(const char *folder) {
-    samples = folder;
+void check_leads(void) {
     two_bytes_a_value();
     own_tables();
     subtracted_beat();

@@ -38,7 +38,7 @@ enum {
     SCP_REFUSED_SECTIONS_3_TO_6 = 8,        /* Sections 3 to 6 break their rules or bounds, or one that is needed is absent */
     SCP_REFUSED_BIMODAL_STEP_INTERVAL = 9,  /* there is bimodal compression, or Sections 5 and 6 differ in step or interval */
     SCP_REFUSED_ABSENT = 10,                /* there is no such field, no lead at that place, or no Section 3 or 6 */
-    SCP_REFUSED_ROOM = 11,                  /* the output or the work space is too short */
+    SCP_REFUSED_ROOM = 11,                  /* the output, the work space or the index is too short */
     SCP_REFUSED_CODE = 12,                  /* a value's code matches nothing, or the stream ends in it */
     SCP_REFUSED_SAMPLE = 13,                /* a sample does not fit 16 bits */
     SCP_REFUSED_LEFT_OVER_BITS = 14,        /* 16 or more bits are left after the last sample; up to 15 are ignored */
@@ -47,7 +47,9 @@ enum {
     /* 0 or more than 65,536 samples are to be coded, or the order is over 2; for a record also: 0 or more than 32 leads, a
      * step or interval of 0, a first sample number of 0 or a last one past 32 bits, samples lent that differ in number from
      * the counts of the leads together, or lists of leads of unequal length */
-    SCP_REFUSED_WRITER_BOUNDS = 17
+    SCP_REFUSED_WRITER_BOUNDS = 17,
+    SCP_REFUSED_DATE = 24,                  /* the month of tag 25 is outside 1 to 12, or its day outside 1 to 31 */
+    SCP_REFUSED_INDEX = 26                  /* the index is not whole entries in order, or more of it is in use than was lent */
 };
 
 /* The most pointers that a record has, and the room in numbers that scp_open asks for. */
@@ -68,6 +70,9 @@ enum {
 
 /* The most bytes that a record has: so much room for one is always enough. */
 #define SCP_RECORD_MAX 1048576
+
+/* The most bytes that an entry of an index has: so much room beyond what is in use is always enough to add one. */
+#define SCP_INDEX_ENTRY_MAX 68
 
 /* The answer to opening a record. */
 typedef struct {
@@ -113,6 +118,19 @@ typedef struct {
     uint8_t refusal;
     uint32_t bytes; /* how many bytes the record has */
 } ScpWritten;
+
+/* An index that a record was added to. */
+typedef struct {
+    uint8_t refusal;
+    size_t used; /* how many bytes of it are in use now */
+} ScpIndexed;
+
+/* An entry of an index. */
+typedef struct {
+    uint8_t more, month, day, leads; /* more is 1: an entry is shown; 0: none is (next the place asked, all others 0) */
+    uint16_t year;
+    size_t start, length, next; /* the identifier's bytes, which have no NUL, and the place behind the entry */
+} ScpIndexEntry;
 
 /* CRC-CCITT of n bytes: polynomial 1021 hex, preset FFFF, most significant bit first, no final change. Never refused. */
 uint16_t scp_crc(const uint8_t *p, size_t n);
@@ -209,6 +227,37 @@ ScpWritten scp_write_record(const uint8_t *section1, size_t n1, const uint8_t *s
                             uint8_t flags, uint16_t step, uint16_t interval, uint8_t order, const uint32_t *firsts, size_t nf,
                             const uint32_t *counts, size_t nc, const uint8_t *ids, size_t ni, const int16_t *samples,
                             size_t ns, uint8_t *work, size_t work_n, uint8_t *out, size_t out_n);
+
+/*
+ * An index is a buffer whose first `used` bytes are entries, each behind the one before it; that of no records has `used` 0.
+ * An entry is five bytes and the identifier without its NUL. The five hold, most significant bit first: the identifier's
+ * length in 6 bits (1 to 63), the year in 16, the month in 4 (1 to 12), the day in 5 (1 to 31), the leads in 8 (0 to 32) and
+ * one bit that is 0. Entries are sorted by the identifier's bytes, a shorter one before a longer one that begins with it, then
+ * by year, month and day; equal ones stand in order of arrival. Adding and looking up judge all bytes in use.
+ */
+
+/*
+ * Adds a record to an index: the identifier of tag 2, the date of tag 25, and how many leads Section 3 has, 0 where it is
+ * absent. The entry is put behind all that are not greater, and those after it move on; the answer is how many bytes are then
+ * in use. They are what adding all these records to an empty index gives, in order of arrival. No byte behind them is changed,
+ * and none at all on refusal. A refusal answers `used` 0, as it answers nothing else: what was in use still is.
+ *
+ * Refusals, the first that applies: 26, 1 to 6 of the record, 8 if Section 3 is present and breaks its rules or bounds, 24, 11
+ * if the entry has no room. Sections 2, 4, 5 and 6 are not asked for theirs.
+ */
+ScpIndexed scp_index_add(uint8_t *index, size_t n, size_t used, const uint8_t *record, size_t m);
+
+/*
+ * Looks up an identifier, lent without its NUL: the answer is the part of the index that holds all of its entries and no
+ * others. Where it has none, start and length are 0. Identifiers are compared as by scp_same_identifier. Refusal 26.
+ */
+ScpPart scp_index_find(const uint8_t *index, size_t n, size_t used, const uint8_t *identifier, size_t k);
+
+/*
+ * Shows the entry at `at` in an index of which all n bytes are in use: the first is at 0. There is none at the end, and none
+ * where no whole entry by these rules stands. The order is not judged; any bytes and any place may be given. Never refused.
+ */
+ScpIndexEntry scp_index_step(const uint8_t *index, size_t n, size_t at);
 
 #ifdef __cplusplus
 }

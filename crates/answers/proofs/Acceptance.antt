@@ -8,7 +8,7 @@ use mathlib.Core.Option.{Option, none, some}
 use native.Mathlib.Omega.{arith}
 use lib.IntN.{ℤ}
 use lib.ListN.{length, take, drop}
-use lib.Seq.{take-at}
+use lib.Seq.{take-at, drop-drop}
 use Rattle.wire.specs.Numbers.{part}
 use Rattle.wire.specs.RuleWords.{every}
 use Rattle.header.specs.declared.Field.{Field}
@@ -37,11 +37,15 @@ use Rattle.encode.specs.Encoding.{tablesGiven, tablesGivenRight, foundRefusal, 
 use Rattle.trip.proofs.Traces.{stream-back}
 use Rattle.trip.proofs.Compose.{meant-right, given-right}
 use Rattle.trip.proofs.Written.{written-back}
-use Rattle.answers.specs.Demands.{AllKept, rowsOpened, rowsLead, Demand2}
+use Rattle.index.specs.Entry.{entrySize, entryIn, isEntry, shownAt, noneAt, entryAt}
+use Rattle.index.specs.Index.{entriesIn}
+use Rattle.index.proofs.Walk.{entries-step}
+use Rattle.filing.specs.Filing as F
+use Rattle.answers.specs.Demands.{AllKept, rowsAdded, rowsOpened, rowsLead, Demand2}
 use Rattle.answers.proofs.Laws.{none-broken}
-use Rattle.answers.proofs.Refusals.{lead, opened, streamed}
+use Rattle.answers.proofs.Refusals.{lead, opened, accepted, streamed}
 use Rattle.answers.proofs.Fewest.{given-kept, undone}
-use Rattle.answers.proofs.Identifiers.{same-equal, equal-same}
+use Rattle.fields.proofs.Identifiers.{same-equal, equal-same}
 
 opened-whole : (r lent : List ℕ) → AllKept (rowsOpened r)
     → (openRefusal r ≡ 0) × (openCount r ≡ countOf r) × (openNumbers r lent ≡ pointersFrom r 0 (countOf r) ++ drop (3 * countOf r) lent)
@@ -72,6 +76,26 @@ walked r kept = rw (place-opened r (At (startOf r 1) (lengthOf r 1)) (Refused (o
 step-shown : (s : List ℕ) (at : ℕ) (f : Field) → stepAt s at ≡ Found f
     → (fieldsFrom s at ≡ f ∷ fieldsFrom s (f .end)) × (f .start ≤ f .end) × (f .end ≤ length s)
 step-shown s at f e = let w = step-found s at f e in (fields-step s at ∙ ap (onward (fieldsFrom s)) e, w .order, w .end)
+
+-- ---- the auditor's index
+
+added : (lent : List ℕ) (used : ℕ) (r : List ℕ) → AllKept (rowsAdded lent used r)
+    → (F.addAnswer lent used r ≡ record { refusal = 0; used = used + entrySize (F.entryOf r) })
+    × (F.indexAfter lent used r ≡ F.putIn lent used (F.placeFor (F.entryOf r) (entriesIn (take used lent))) (F.entryOf r))
+unfolding F.addAnswer F.indexAfter
+added lent used r kept = rw (accepted lent used r kept) (refl, refl)
+
+listed : (s : List ℕ) (at : ℕ) → isEntry (drop at s) ≡ true
+    → (entryAt s at ≡ shownAt at (entryIn (drop at s)))
+    × (entriesIn (drop at s) ≡ entryIn (drop at s) ∷ entriesIn (drop (entryAt s at .next) s))
+unfolding entryAt
+listed s at h =
+    let t = drop at s in
+    (rw h, entries-step t ∙ rw (h, drop-drop (entrySize (entryIn t)) at s))
+
+listed-end : (s : List ℕ) (at : ℕ) → isEntry (drop at s) ≡ false → (entryAt s at ≡ noneAt at) × (entriesIn (drop at s) ≡ [])
+unfolding entryAt
+listed-end s at h = (rw h, entries-step (drop at s) ∙ rw h)
 
 -- ---- the tables of a record
 
@@ -122,6 +146,9 @@ demand2 = record {
       rw (streamed r place room work kept, e) (refl, refl, trace-length r (place - 1) xs (sym e));
   undone = λ r order xs bs right fit. undone (length (tablesOf r)) (tablesOf r) (record-right r right) order xs bs fit;
   undone-given = λ s2 order xs bs right fit. undone (length (tablesGiven s2)) (tablesGiven s2) (given-right s2 right) order xs bs fit;
+  added = added;
+  listed = listed;
+  listed-end = listed-end;
   coded-back = λ s2 xs order work out a w o fit e. encoded-back fit e;
   given-back = λ j work out a w o fits f. written-back j work out fits f;
 }

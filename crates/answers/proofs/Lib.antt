@@ -1,12 +1,12 @@
 pub mod Laws
 mod Lent
-pub mod Identifiers
 pub mod Faults
 pub mod Refusals
 pub mod Cases
 pub mod Fewest
 pub mod Acceptance
 pub mod Padding
+pub mod AuditorsIndex
 pub mod Written
 pub mod Shortest
 pub mod Outcomes

@@ -9,7 +9,7 @@ use native.Mathlib.Omega.{arith}
 use lib.Dec.{leb, eqb}
 use borrow.Author.Tests.{eqb-true, eq-eqb, ne-eqb}
 use lib.IntN.{ℤ, pos}
-use lib.ListN.{length, replicate}
+use lib.ListN.{length, take, replicate}
 use Rattle.wire.specs.RuleWords.{every, unless}
 use Rattle.header.specs.declared.Step.{Step}
 use Rattle.header.specs.declared.Step.the-variants.{Found, End}
@@ -32,7 +32,9 @@ use Rattle.encode.specs.Encoding.{LeadEncoding}
 use Rattle.compose.specs.declared.Written.{Written}
 use Rattle.compose.specs.Writing as C
 use Rattle.compose.specs.Writing.{Job, RecordWriting}
-use Rattle.answers.specs.Demands.{firstBroken, allKept, AllKept, rowsOpened, rowsField, rowsLead, rowsRead, rowsAsked, rowsJob, faultOf, Later, refusedLead, refusedEntry, refusedStream, refusedRecord, Demand1}
+use Rattle.index.specs.Index.{bytesIn, entriesIn, indexRight, front, behind, smaller, has, partOrNone, found, findPlace}
+use Rattle.filing.specs.Filing as F
+use Rattle.answers.specs.Demands.{firstBroken, allKept, AllKept, rowsIndex, rowsAdded, refusedAdding, rowsOpened, rowsField, rowsLead, rowsRead, rowsAsked, rowsJob, faultOf, Later, refusedLead, refusedEntry, refusedStream, refusedRecord, Demand1}
 use Rattle.answers.proofs.Faults.{fault-number}
 use Rattle.answers.proofs.Laws.{none-broken, broken-behind, broken-first, broken-kept}
 
@@ -101,6 +103,40 @@ walk r = go (eqb (openRefusal r) 0) refl ∙ opening r
     go : (b : Bool) → eqb (openRefusal r) 0 ≡ b → refusalOf (cond b (At (startOf r 1) (lengthOf r 1)) (Refused (openRefusal r))) ≡ openRefusal r
     go true e = sym (eqb-true (openRefusal r) 0 e)
     go false e = refl
+
+-- ---- the auditor's index
+
+-- 26 comes first, then what opening asks, then the rest
+added : (lent : List ℕ) (used : ℕ) (r : List ℕ) → F.addAnswer lent used r .refusal ≡ firstBroken (rowsAdded lent used r) 0
+unfolding F.addAnswer F.addRefusal firstBroken
+added lent used r =
+    ap (λ (n : ℕ). cond (indexRight lent used) n 26)
+    (behind-opened r ((8, F.section3Kept r) ∷ (24, F.dateKept r) ∷ (11, F.roomRight lent used r) ∷ []))
+
+-- where its rows are kept a record is accepted
+pub accepted : (lent : List ℕ) (used : ℕ) (r : List ℕ) → AllKept (rowsAdded lent used r) → F.addRefusal lent used r ≡ 0
+unfolding F.addAnswer
+accepted lent used r kept = added lent used r ∙ none-broken (rowsAdded lent used r) 0 kept
+
+not-added : (lent : List ℕ) (used : ℕ) (r : List ℕ) (n : ℕ) → F.addAnswer lent used r .refusal ≡ suc n
+    → (F.addAnswer lent used r ≡ refusedAdding (suc n)) × (F.indexAfter lent used r ≡ lent)
+unfolding F.addAnswer F.indexAfter
+not-added lent used r n e = rw (e, ne-eqb (suc n) 0 (omega arith)) (refl, refl)
+
+found-none : (start size : ℕ) → refusalOf (partOrNone start size) ≡ 0
+found-none start size = go (eqb size 0)
+  where
+    go : (b : Bool) → refusalOf (cond b (At 0 0) (At start size)) ≡ 0
+    go true = refl
+    go false = refl
+
+finding : (lent : List ℕ) (used : ℕ) (id : List ℕ) → refusalOf (findPlace lent used id) ≡ firstBroken (rowsIndex lent used) 0
+unfolding findPlace found firstBroken
+finding lent used id =
+    let es = entriesIn (take used lent) in
+    refused-or (indexRight lent used) 26 (found id es)
+    ∙ ap (λ (n : ℕ). cond (indexRight lent used) n 26)
+    (found-none (bytesIn (front (smaller id) es)) (bytesIn (front (has id) (behind (smaller id) es))))
 
 -- ---- a lead and its entry
 
@@ -293,6 +329,8 @@ demand1 = record {
       encode-later f (eqb-true (E.askedRefusal s2 (length xs) order (length work)) 0 (sym (coding-kept s2 (length xs) order (length work)) ∙ kept));
   writing-later = λ j work out a w o f kept.
       write-later f (eqb-true (C.jobRefusal j (length work)) 0 (sym (writing-kept j (length work)) ∙ kept));
+  adding = added;
+  finding = finding;
   alone = alone;
   not-opened = not-opened;
   not-walked = λ r n. not-shown r n (walkPlace r);
@@ -301,6 +339,8 @@ demand1 = record {
   not-read = λ r place n room work out. not-read r (place - 1) n (readTrace r place room work) out;
   not-coded = λ s2 xs order work out a w o n e. encode-refused n e;
   not-written = λ j work out a w o n f. write-refused n f;
+  not-added = not-added;
+  not-found = λ lent used id n. not-shown lent n (findPlace lent used id);
   work-read = work-read;
   work-coded = λ s2 xs order work out a w o e. encode-work e;
   work-written = λ j work out a w o f. write-work f;

@@ -5,15 +5,16 @@
 -- The names below. r is the bytes of a record, and `place` a lead's place in it, from 1. s2 is Section 2's data as the writer is given
 -- them, xs a lead's samples, j a job. `work` and `out` are the work space and the output before a call; a is what the call answered, w
 -- the work space and o the output after it. `room` is how many elements an output has that is lent to the reader; where `work` is a
--- number, it is how many the work space has. A field is the k-th with its tag, from 1; a refusal that is `suc n` is not 0.
+-- number, it is how many the work space has. A field is the k-th with its tag, from 1; a refusal that is `suc n` is not 0. Of the auditor's
+-- index `lent`, `used` bytes are in use; s is any bytes, and id an identifier without its NUL.
 --
 -- > Any bytes and any numbers may come in, and every call ends.
 -- The checker accepts a function only if it ends, for all that may come in; no call has a condition on its caller. It also accepts none
--- that changes what is lent only to be read. So neither needs a statement. The check, comparing identifiers, a step of the walk and a
--- row asked alone refuse nothing.
+-- that changes what is lent only to be read. So neither needs a statement. The check, comparing identifiers, a step of the walk or along
+-- the index, and a row asked alone refuse nothing.
 use Prim.Native.Nat.{ℕ, suc, _+_, _-_, _*_, _≤_, _<_}
 use mathlib.Core.Path.{_≡_}
-use mathlib.Core.Bool.{Bool, true, not, _&&_, cond}
+use mathlib.Core.Bool.{Bool, true, false, not, _&&_, cond}
 use mathlib.Core.List.{List, [], _∷_, _++_, map}
 use mathlib.Core.Logic.{_⊎_, _↔_}
 use lib.Dec.{eqb}
@@ -53,6 +54,11 @@ use Rattle.encode.specs.Encoding.{tablesGiven, askedRight, tablesGivenRight, wo
 use Rattle.compose.specs.declared.Written.{Written}
 use Rattle.compose.specs.Writing.{Job, longest, jobRight, recordOf, RecordWriting}
 use Rattle.trip.specs.GivenBack.{JobFits, GivenBack, samplesOf}
+use Rattle.index.specs.Entry.{entrySize, entryIn, isEntry, shownAt, noneAt, entryAt}
+use Rattle.index.specs.Index.{entriesIn, indexRight, findPlace}
+use Rattle.filing.specs.declared.Indexed.{Indexed}
+use Rattle.filing.specs.Filing as F
+use Rattle.filing.specs.Filing.{section3Kept, dateKept, addAnswer, placeFor, putIn, indexAfter}
 use Rattle.scp.specs.declared.ScpOpened.{ScpOpened}
 
 -- ---- rules in a row
@@ -97,6 +103,14 @@ rowsJob j work =
     (17, jobRight j) ∷ (6, section1Right 0 (j .section1) 0) ∷ (7, tablesGivenRight (j .section2))
     ∷ (11, workRight (j .section2) (longest (j .counts)) work) ∷ []
 
+-- 26, asked of the auditor's index; and 26, 1 to 6, 8 for Section 3, 24 and 11, asked of a record that is added to it
+abbrev pub rowsIndex : List ℕ → ℕ → List (ℕ × Bool)
+rowsIndex lent used = (26, indexRight lent used) ∷ []
+
+abbrev pub rowsAdded : List ℕ → ℕ → List ℕ → List (ℕ × Bool)
+rowsAdded lent used r =
+    rowsIndex lent used ++ (rowsOpened r ++ ((8, section3Kept r) ∷ (24, dateKept r) ∷ (11, F.roomRight lent used r) ∷ []))
+
 -- the fault that a trace has, and 0 where it is rebuilt
 abbrev pub faultOf : Trace → ℕ
 faultOf (rebuilt xs) = 0
@@ -119,6 +133,9 @@ refusedStream n = record { refusal = n; bytes = 0; bits = 0 }
 
 abbrev pub refusedRecord : ℕ → Written
 refusedRecord n = record { refusal = n; bytes = 0 }
+
+abbrev pub refusedAdding : ℕ → Indexed
+refusedAdding n = record { refusal = n; used = 0 }
 
 -- ---- the first demand
 
@@ -144,6 +161,9 @@ pub record Demand1 : Type 0 where
       → LeadEncoding s2 xs order work out a w o → AllKept (rowsAsked s2 (length xs) order (length work)) → Later (a .refusal)
   pub writing-later : (j : Job) (work out : List ℕ) (a : Written) (w o : List ℕ) → RecordWriting j work out a w o
       → AllKept (rowsJob j (length work)) → Later (a .refusal)
+  -- adding a record to the index and looking up an identifier in it: the first of their rows that is broken
+  pub adding : (lent : List ℕ) (used : ℕ) (r : List ℕ) → addAnswer lent used r .refusal ≡ firstBroken (rowsAdded lent used r) 0
+  pub finding : (lent : List ℕ) (used : ℕ) (id : List ℕ) → refusalOf (findPlace lent used id) ≡ firstBroken (rowsIndex lent used) 0
   -- a row from 1 to 9 that is asked alone is the row that opening and reading ask. So the smallest that is not kept is the refusal: of 1 to
   -- 6 that of opening, of 1 to 9 that of reading
   pub alone : (r : List ℕ) (place : ℕ)
@@ -162,6 +182,10 @@ pub record Demand1 : Type 0 where
       → LeadEncoding s2 xs order work out a w o → a .refusal ≡ suc n → (a ≡ refusedStream (suc n)) × (o ≡ out)
   pub not-written : (j : Job) (work out : List ℕ) (a : Written) (w o : List ℕ) (n : ℕ) → RecordWriting j work out a w o → a .refusal ≡ suc n
       → (a ≡ refusedRecord (suc n)) × (o ≡ out)
+  pub not-added : (lent : List ℕ) (used : ℕ) (r : List ℕ) (n : ℕ) → addAnswer lent used r .refusal ≡ suc n
+      → (addAnswer lent used r ≡ refusedAdding (suc n)) × (indexAfter lent used r ≡ lent)
+  pub not-found : (lent : List ℕ) (used : ℕ) (id : List ℕ) (n : ℕ) → refusalOf (findPlace lent used id) ≡ suc n
+      → (findPlace lent used id ≡ Refused (suc n)) × (partBytes lent (findPlace lent used id) ≡ [])
   -- > save that work space is cleared once its use has begun.
   -- It is zeros, all of it, once a beat's reading or a search has begun, refused or not, and untouched otherwise
   pub work-read : (r : List ℕ) (place room : ℕ) (work : List ℤ)
@@ -224,6 +248,15 @@ pub record Demand2 : Type 0 where
       → StreamFor (tablesOf r) order xs bs ↔ BeginsWithStream mostLeftOver (tablesOf r) order xs bs
   pub undone-given : (s2 : List ℕ) (order : ℕ) (xs : List ℤ) (bs : List ℕ) → tablesGivenRight s2 ≡ true → every fits16 xs ≡ true
       → StreamFor (tablesGiven s2) order xs bs ↔ BeginsWithStream mostLeftOver (tablesGiven s2) order xs bs
+  -- a record that keeps its rows is added: its entry is put in at its place. What that gives, and what looking up shows, says `AuditorsIndex`
+  pub added : (lent : List ℕ) (used : ℕ) (r : List ℕ) → AllKept (rowsAdded lent used r)
+      → (addAnswer lent used r ≡ record { refusal = 0; used = used + entrySize (F.entryOf r) })
+      × (indexAfter lent used r ≡ putIn lent used (placeFor (F.entryOf r) (entriesIn (take used lent))) (F.entryOf r))
+  -- a step along any bytes shows the first of the entries from a place on, and where the others are
+  pub listed : (s : List ℕ) (at : ℕ) → isEntry (drop at s) ≡ true
+      → (entryAt s at ≡ shownAt at (entryIn (drop at s)))
+      × (entriesIn (drop at s) ≡ entryIn (drop at s) ∷ entriesIn (drop (entryAt s at .next) s))
+  pub listed-end : (s : List ℕ) (at : ℕ) → isEntry (drop at s) ≡ false → (entryAt s at ≡ noneAt at) × (entriesIn (drop at s) ≡ [])
   -- > What our writer accepts and writes, our reader gives back the same.
   -- First a lead that is encoded, then a record that is written
   pub coded-back : (s2 : List ℕ) (xs : List ℤ) (order : ℕ) (work out : List ℕ) (a : Coded) (w o : List ℕ) → every fits16 xs ≡ true

@@ -1,3 +1,4 @@
 pub mod Examples
 pub mod Demands
 pub mod Padding
+pub mod AuditorsIndex

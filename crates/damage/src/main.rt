@@ -1,5 +1,6 @@
 // Reads sound and damaged records and writes what each call answers: opening (the number of pointers, or the refusal), the patient
-// identifier's place and length, the rows whose rules are broken, each asked alone, and the leads at places 0 to 3 with their samples.
+// identifier's place and length, the rows whose rules are broken, each asked alone, the leads at places 0 to 3 with their samples, and the
+// auditor's index as it grows; at the end its bytes, and where the entries of 007 and of 7 are in it.
 use fields::Place;
 use leads::Lead;
 use libc::STDOUT_FILENO;
@@ -129,13 +130,54 @@ fn show_leads(rec: &[u8]) {
     }
 }
 
-fn show_file(path: &[u8]) {
+// Adds the record to the index; answered is how many bytes of it are in use then.
+fn show_adding(rec: &[u8], index: &mut [u8], used: usize) -> usize {
+    let added = filing::add(index, used, rec);
+    put(b"  index: ");
+    if added.refusal != 0 {
+        put_refusal(added.refusal);
+        return used;
+    }
+    put_number(added.used);
+    put(b" bytes\n");
+    added.used
+}
+
+fn show_index(index: &[u8], used: usize) {
+    put(b"the index:");
+    let mut i = 0;
+    while i < used {
+        put(b" ");
+        io::print_hex(STDOUT_FILENO, wire::byte(index, i) as u64, 2);
+        i += 1;
+    }
+    put(b"\n");
+}
+
+fn show_entries(index: &[u8], used: usize, identifier: &[u8]) {
+    put(identifier);
+    match index::find_place(index, used, identifier) {
+        Place::At(start, size) => {
+            put(b": ");
+            put_number(size);
+            put(b" bytes at ");
+            put_number(start);
+            put(b"\n");
+        }
+        Place::Refused(number) => {
+            put(b": ");
+            put_refusal(number);
+        }
+    }
+}
+
+fn show_file(path: &[u8], index: &mut [u8], used: usize) -> usize {
     put(path);
     put(b"\n");
     let fd = os::open_read(path);
     if fd < 0 {
         os::fail(path);
-        return;
+        return used;
     }
     let mut buffer = io::buffer();
     let n = io::read_full(fd, &mut buffer);
@@ -144,19 +186,30 @@ fn show_file(path: &[u8]) {
     show_identifier(&buffer[..n]);
     show_rows(&buffer[..n]);
     show_leads(&buffer[..n]);
+    show_adding(&buffer[..n], index, used)
 }
 
-fn show_argument(i: usize) {
+fn show_argument(i: usize, index: &mut [u8], used: usize) -> usize {
     let mut path = io::buffer();
     let n = os::arg(i, &mut path);
-    show_file(&path[..n]);
+    show_file(&path[..n], index, used)
+}
+
+fn show_arguments(index: &mut [u8]) -> usize {
+    let n = os::arg_count();
+    let mut used = 0;
+    let mut i = 1;
+    while i < n {
+        used = show_argument(i, index, used);
+        i += 1;
+    }
+    used
 }
 
 fn main() {
-    let n = os::arg_count();
-    let mut i = 1;
-    while i < n {
-        show_argument(i);
-        i += 1;
-    }
+    let mut index = [0u8; 256];
+    let used = show_arguments(&mut index);
+    show_index(&index, used);
+    show_entries(&index, used, b"007");
+    show_entries(&index, used, b"7");
 }

@@ -1,2 +1,3 @@
 pub mod Lookup
 pub mod Identifier
+pub mod Recording

@@ -143,7 +143,7 @@ fn ends_at(s: &[u8], at: usize, spare: usize) -> bool
 }
 
 // No byte from one place up to another is NUL.
-fn no_nul(s: &[u8], from: usize, to: usize) -> bool
+pub fn no_nul(s: &[u8], from: usize, to: usize) -> bool
     ensures { λ r. ⌜ r ≡ allIn from to (λ i. not (eqb (byteAt (now (s .entry)) i) 0)) ⌝ }
 {
     let mut i = from;

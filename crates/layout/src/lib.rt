@@ -15,7 +15,7 @@ ghost use Rattle.layout.specs.InnerPointers.{absents};
 ghost use Rattle.layout.specs.InnerLeads.{entryBytes};
 
 // Bytes are put at a place.
-fn put_bytes(part: &mut [u8], at: usize, bytes: &[u8])
+pub fn put_bytes(part: &mut [u8], at: usize, bytes: &[u8])
     requires { ⌜ at + length (now bytes) ≤ length (now part) ⌝ }
     ensures { λ _. ⌜ now (part .exit)
         ≡ take at (now (part .entry)) ++ (now (bytes .entry) ++ drop (at + length (now (bytes .entry))) (now (part .entry))) ⌝ }

@@ -13,12 +13,17 @@ ghost use Rattle.leads.specs.LeadTrace.{readTrace};
 ghost use Rattle.leads.specs.LeadAnswers.{leadAnswer, outAfter, workAfter, entryAnswer};
 ghost use Rattle.encode.specs.Encoding.{LeadEncoding};
 ghost use Rattle.compose.specs.Writing.{jobOf, RecordWriting};
+ghost use Rattle.index.specs.Entry.{entryAt};
+ghost use Rattle.index.specs.Index.{findPlace};
+ghost use Rattle.filing.specs.Filing.{addAnswer, indexAfter};
 ghost use Rattle.scp.specs.Boundary.{partAt, shown, oneIf};
 use compose::Head;
 use compose::Written;
 use encode::Coded;
 use fields::Place;
+use filing::Indexed;
 use header::Step;
+use index::IndexEntry;
 use leads::Entry;
 use leads::Lead;
 
@@ -28,7 +33,7 @@ pub struct ScpOpened {
     pub count: u32,
 }
 
-// A part of the record lent.
+// A part of the record or of the index lent.
 #[repr(C)]
 pub struct ScpPart {
     pub refusal: u8,
@@ -227,4 +232,29 @@ pub extern "C" fn scp_write_record(
         work,
         out,
     )
+}
+
+// Adding a record to the auditor's index, of which `used` bytes are in use.
+#[no_mangle]
+pub extern "C" fn scp_index_add(index: &mut [u8], used: usize, rec: &[u8]) -> Indexed
+    ensures answer { λ r. ⌜ r ≡ addAnswer (now (index .entry)) used (now (rec .entry)) ⌝ }
+    ensures bytes { λ r. ⌜ now (index .exit) ≡ indexAfter (now (index .entry)) used (now (rec .entry)) ⌝ }
+{
+    filing::add(index, used, rec)
+}
+
+// The entries of an identifier, which comes without its NUL, as a part of the index.
+#[no_mangle]
+pub extern "C" fn scp_index_find(index: &[u8], used: usize, identifier: &[u8]) -> ScpPart
+    ensures { λ r. ⌜ r ≡ partAt (findPlace (now (index .entry)) used (now (identifier .entry))) ⌝ }
+{
+    part_of(index::find_place(index, used, identifier))
+}
+
+// The entry at a place of the index, which is not judged.
+#[no_mangle]
+pub extern "C" fn scp_index_step(index: &[u8], at: usize) -> IndexEntry
+    ensures { λ r. ⌜ r ≡ entryAt (now (index .entry)) at ⌝ }
+{
+    index::step(index, at)
 }

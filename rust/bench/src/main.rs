@@ -6,6 +6,7 @@
 mod biosig;
 mod encoding;
 mod folder;
+mod index;
 mod measure;
 mod plain;
 mod reading;
@@ -24,6 +25,9 @@ struct Cli {
     /// How many rounds each line has
     #[arg(long, value_name = "N", default_value_t = 41)]
     rounds: usize,
+    /// How many entries the index has
+    #[arg(long, value_name = "N", default_value_t = 1_000_000)]
+    entries: usize,
     /// How the tool is run, the words of it with blanks between; the script says it
     #[arg(long, value_name = "WORDS", default_value = "", hide = true)]
     tool: String,
@@ -42,6 +46,8 @@ enum Part {
     Engine,
     /// Encoding a lead
     Encoding,
+    /// An index: looking up, adding, listing
+    Index,
     /// A folder of 2,000 records through the tool's `check`
     Folder,
 }
@@ -64,6 +70,9 @@ fn main() {
     }
     if is_asked(Part::Encoding) {
         encoding::all(&mut table);
+    }
+    if is_asked(Part::Index) {
+        index::all(&mut table, cli.entries.max(1));
     }
     if is_asked(Part::Folder) {
         let words: Vec<String> = cli.tool.split_whitespace().map(String::from).collect();

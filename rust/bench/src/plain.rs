@@ -1,5 +1,7 @@
 //! The work in plain Rust, where the judge's code is not what one would measure against.
 
+use std::ops::Range;
+
 /// A code of the default table: its bits, first bit highest, and how many there are.
 #[derive(Clone, Copy)]
 struct Code {
@@ -103,9 +105,151 @@ impl Greedy {
     }
 }
 
+/// An entry of an index.
+#[derive(Clone, Debug, PartialEq, Eq)]
+pub struct Entry<'a> {
+    pub identifier: &'a [u8],
+    /// Year, month and day, in the bits that they have in an entry: a later date is a greater number.
+    pub date: u32,
+    pub leads: u8,
+}
+
+/// The bytes of an entry before its identifier.
+const FIXED: usize = 5;
+
+/// A date as entries have it.
+pub fn date(year: u16, month: u8, day: u8) -> u32 {
+    u32::from(year) << 9 | u32::from(month) << 5 | u32::from(day)
+}
+
+impl<'a> Entry<'a> {
+    /// The entry that these bytes begin with, if it is whole and keeps the rules.
+    pub fn first_of(bytes: &'a [u8]) -> Option<Entry<'a>> {
+        let (fixed, rest) = bytes.split_first_chunk::<FIXED>()?;
+        let bits = fixed
+            .iter()
+            .fold(0, |bits, &byte| bits << 8 | u64::from(byte));
+        let identifier = rest.get(..(bits >> 34) as usize)?;
+        let (date, leads) = ((bits >> 9) as u32 & 0x1FF_FFFF, (bits >> 1) as u8);
+        let (month, day) = (date >> 5 & 0xF, date & 0x1F);
+        let is_dated = (1..=12).contains(&month) && day != 0;
+        let is_named = !identifier.is_empty() && !identifier.contains(&0);
+        let keeps_the_rules = is_dated && is_named && leads <= 32 && bits & 1 == 0;
+        keeps_the_rules.then_some(Entry {
+            identifier,
+            date,
+            leads,
+        })
+    }
+
+    /// The entry of a record that is sound.
+    fn of(record: &'a [u8]) -> Option<Entry<'a>> {
+        let section_3 = judge::open(record).ok()?[3];
+        let (_, identifier) = record[judge::field(record, 2, 1).ok()?].split_last()?;
+        let [low, high, month, day] = record[judge::field(record, 25, 1).ok()?] else {
+            return None;
+        };
+        Some(Entry {
+            identifier,
+            date: date(u16::from_le_bytes([low, high]), month, day),
+            leads: match section_3.is_present() {
+                true => record[section_3.index as usize - 1 + scp::FIRST_FIELD],
+                false => 0,
+            },
+        })
+    }
+
+    /// Its bytes.
+    pub fn bytes(&self) -> Vec<u8> {
+        let length = self.identifier.len() as u64;
+        let bits = length << 34 | u64::from(self.date) << 9 | u64::from(self.leads) << 1;
+        [&bits.to_be_bytes()[8 - FIXED..], self.identifier].concat()
+    }
+
+    fn size(&self) -> usize {
+        FIXED + self.identifier.len()
+    }
+
+    /// What entries are sorted by.
+    fn key(&self) -> (&'a [u8], u32) {
+        (self.identifier, self.date)
+    }
+}
+
+/// Shows the entries of an index with their places, in a loop that judges each; `None` if it is no index.
+fn judged<'a>(index: &'a [u8], mut show: impl FnMut(usize, &Entry<'a>)) -> Option<()> {
+    let (mut at, mut before) = (0, (&[][..], 0));
+    while at < index.len() {
+        let entry = Entry::first_of(&index[at..])?;
+        if entry.key() < before {
+            return None;
+        }
+        show(at, &entry);
+        before = entry.key();
+        at += entry.size();
+    }
+    Some(())
+}
+
+/// The part of an index that holds the entries of an identifier; `None` if it is no index.
+pub fn index_find(index: &[u8], identifier: &[u8]) -> Option<Range<usize>> {
+    let mut part = 0..0;
+    judged(index, |at, entry| {
+        if entry.identifier == identifier {
+            let start = if part.is_empty() { at } else { part.start };
+            part = start..at + entry.size();
+        }
+    })?;
+    Some(part)
+}
+
+/// Adds a sound record to an index that has room for it, and answers how many bytes are then in use.
+pub fn index_add(index: &mut [u8], used: usize, record: &[u8]) -> Option<usize> {
+    let new = Entry::of(record)?;
+    let mut place = 0;
+    judged(&index[..used], |at, entry| {
+        if entry.key() <= new.key() {
+            place = at + entry.size();
+        }
+    })?;
+    let end = place + new.size();
+    index.copy_within(place..used, end);
+    index[place..end].copy_from_slice(&new.bytes());
+    Some(used + new.size())
+}
+
+/// The entries of an index by steps, their order not judged.
+pub fn index_entries(index: &[u8]) -> impl Iterator<Item = Entry<'_>> {
+    let mut rest = index;
+    std::iter::from_fn(move || {
+        let entry = Entry::first_of(rest)?;
+        rest = &rest[entry.size()..];
+        Some(entry)
+    })
+}
+
 #[cfg(test)]
 mod tests {
-    use super::{Crc, Greedy};
+    use super::{date, index_find, Crc, Entry, Greedy};
+
+    #[test]
+    fn entries_of_an_index() {
+        let entry = Entry {
+            identifier: b"007",
+            date: date(2024, 3, 14),
+            leads: 6,
+        };
+        let bytes = [0x0C, 0x1F, 0xA0, 0xDC, 12, b'0', b'0', b'7'];
+        assert_eq!(entry.bytes(), bytes);
+        assert_eq!(Entry::first_of(&bytes), Some(entry));
+        assert_eq!(Entry::first_of(&bytes[..7]), None);
+        let seven = [4, 0x1F, 0xA0, 0xDC, 0, b'7'];
+        let index = [&bytes[..], &bytes, &seven].concat();
+        assert_eq!(index_find(&index, b"007"), Some(0..16));
+        assert_eq!(index_find(&index, b"7"), Some(16..22));
+        assert_eq!(index_find(&index, b"8"), Some(0..0));
+        assert_eq!(index_find(&[&seven[..], &bytes].concat(), b"7"), None);
+    }
 
     #[test]
     fn known_check() {

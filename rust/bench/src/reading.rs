@@ -11,9 +11,8 @@ use scp::SAMPLES_MAX;
 use crate::measure::Table;
 use crate::plain::Crc;
 
-/// Section 1's data: an identifier, a device (no text in it, 7-bit letters, mains of 50 Hz), a date and a time.
-const FIELDS: [u8; 65] = [
-    2, 4, 0, b'0', b'0', b'7', 0, // patient identifier
+/// Section 1's data behind the identifier: a device (no text in it, 7-bit letters, mains of 50 Hz), a date and a time.
+const FIELDS: [u8; 58] = [
     14, 42, 0, 0, 0, 0, 0, 0, 0, 0, 0, 0, 0, 0, 0, 0, 0, 13, 0xA0, 0, 0, 1, 0, 0, 0, 0, 0, 0, 0, 0,
     0, 0, 0, 0, 0, 0, 0, 0, 1, 0, 0, 0, 0, 0, 0, // recording device
     25, 4, 0, 0xE9, 7, 3, 14, // date of recording
@@ -21,12 +20,24 @@ const FIELDS: [u8; 65] = [
 ];
 const END_MARK: [u8; 3] = [255, 0, 0];
 
-/// A record of leads of this many samples each, by these tables.
+/// A record of leads of this many samples each, by these tables, for the patient 007.
 pub fn record_of(leads: usize, count: usize, section2: &[u8], order: u8) -> Vec<u8> {
+    record_for(b"007", leads, count, section2, order)
+}
+
+/// The same for the patient with this identifier.
+pub fn record_for(
+    identifier: &[u8],
+    leads: usize,
+    count: usize,
+    section2: &[u8],
+    order: u8,
+) -> Vec<u8> {
     let all = wave(leads * count);
+    let head = [2, identifier.len() as u8 + 1, 0]; // the identifier's tag, and its length with the NUL
     let written = judge::write_record(
         &Writing {
-            section1: &[&FIELDS[..], &END_MARK].concat(),
+            section1: &[&head, identifier, &[0], &FIELDS, &END_MARK].concat(),
             section2,
             version: 13,
             flags: 4 | (leads as u8) << 3, // recorded together

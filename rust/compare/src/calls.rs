@@ -6,6 +6,7 @@ use judge::make::Rng;
 use scp::{raw, Refusal};
 
 use crate::answers::{hold, number, same, Difference};
+use crate::index;
 use crate::leads;
 use crate::lent::{Lent, Room};
 use crate::tally::{Call, Tally};
@@ -26,6 +27,8 @@ pub fn compare(input: &[u8], rng: &mut Rng, tally: &mut Tally) -> Result<(), Dif
     crc(record, rng, tally)?;
     leads::compare(record, rng, tally)?;
     wrapper(record)?;
+    // with numbers of its own, so that what is made after it does not depend on it
+    index::compare(record, &mut rng.clone(), tally)?;
     hold(lent.is_untouched(), "lent bytes were changed")
 }
 
@@ -225,7 +228,7 @@ fn some_part(bytes: &[u8], rng: &mut Rng) -> Range<usize> {
 }
 
 /// The part that the library is to answer: with a refusal all else is 0.
-fn part(judged: &Result<Range<usize>, u8>) -> raw::ScpPart {
+pub fn part(judged: &Result<Range<usize>, u8>) -> raw::ScpPart {
     let range = judged.clone().unwrap_or(0..0);
     raw::ScpPart {
         refusal: number(judged),

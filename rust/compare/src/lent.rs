@@ -31,7 +31,8 @@ impl Element for u32 {
     }
 }
 
-/// Elements to lend, at any alignment, between guards. They must come back as they were.
+/// Elements to lend, at any alignment, between guards. They must come back as they were, but for those that a call is to
+/// change.
 pub struct Lent<T> {
     memory: Vec<T>,
     before: Vec<T>,
@@ -59,9 +60,22 @@ impl<T: Element> Lent<T> {
         &self.memory[self.start..self.start + self.length]
     }
 
+    /// The part that is lent, to be changed.
+    pub fn lent_to_change(&mut self) -> &mut [T] {
+        &mut self.memory[self.start..self.start + self.length]
+    }
+
     /// Whether elements and guards are as they were.
     pub fn is_untouched(&self) -> bool {
         self.memory == self.before
+    }
+
+    /// Whether the first elements are now these, and all else is as it was.
+    pub fn holds(&self, elements: &[T]) -> bool {
+        let end = self.start + elements.len();
+        self.memory[..self.start] == self.before[..self.start]
+            && self.memory[self.start..end] == *elements
+            && self.memory[end..] == self.before[end..]
     }
 }
 
@@ -183,8 +197,12 @@ mod tests {
         every_change_is_seen_in(7i16, 9);
         let mut lent = Lent::new(&[7u8, 0, 9], &mut Rng::new(1));
         assert!(lent.is_untouched() && lent.lent() == [7, 0, 9]);
+        assert!(lent.holds(&[]) && lent.holds(&[7]) && !lent.holds(&[8]));
+        lent.lent_to_change()[0] = 8;
+        assert!(!lent.is_untouched() && lent.holds(&[8]) && lent.holds(&[8, 0, 9]));
+        assert!(!lent.holds(&[]) && !lent.holds(&[8, 1]));
         let end = lent.memory.len() - 1;
         lent.memory[end] = 0;
-        assert!(!lent.is_untouched());
+        assert!(!lent.is_untouched() && !lent.holds(&[8]));
     }
 }

@@ -2,8 +2,9 @@
 //!
 //! Inputs are made by the judge's generator from a seed ([`inputs`]), or laid out by hand at the edges of the rules
 //! ([`edges`]) and at their ends ([`extremes`]); every call is made by both on each of them, in memory with guards around
-//! it ([`calls`], [`encoding`], [`writing`]); and every answer is counted ([`tally`], [`writing::counts`]). On tiny leads the
-//! encoder is held against all streams that there are ([`encoding::brute`]); what is written is read back.
+//! it ([`calls`], [`encoding`], [`writing`], [`index`]); and every answer is counted ([`tally`], [`writing::counts`]). On tiny
+//! leads the encoder is held against all streams that there are ([`encoding::brute`]); what is written is read back; an index
+//! to which records were added one by one is held against the one that is built afresh from them.
 
 mod answers;
 mod beaten;
@@ -13,6 +14,7 @@ pub mod edges;
 pub mod encoding;
 pub mod extremes;
 mod guarded;
+pub mod index;
 pub mod inputs;
 pub mod largest;
 mod leads;
@@ -29,8 +31,11 @@ use tally::Tally;
 
 /// One input in this many comes with a lead to encode.
 const LEADS: u64 = 4;
+/// One input in this many comes with records to build an index from.
+const INDEXES: u64 = 8;
 
-/// Compares on `count` inputs that the seed fixes, and on leads to encode. The counts, or what differs first and on which input.
+/// Compares on `count` inputs that the seed fixes, on leads to encode and on records to build indexes from. The counts, or what
+/// differs first and on which input.
 pub fn run(seed: u64, count: u64) -> Result<Tally, String> {
     let mut tally = Tally::default();
     for number in 0..count {
@@ -44,6 +49,12 @@ pub fn run(seed: u64, count: u64) -> Result<Tally, String> {
             let lead = make::to_encode(&mut rng);
             encoding::compare(&lead, &mut rng, &mut tally).map_err(|difference| {
                 format!("seed {seed}, lead to encode with input {number}: {difference}")
+            })?;
+        }
+        if number % INDEXES == 0 {
+            let records = make::to_index(&mut rng);
+            index::build(&records, &mut rng, &mut tally).map_err(|difference| {
+                format!("seed {seed}, index to build with input {number}: {difference}")
             })?;
         }
     }

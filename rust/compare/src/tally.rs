@@ -32,6 +32,31 @@ pub enum Call {
     EncodeLead,
     /// `scp_encode_lead`, with the work space cleared: the search had begun
     EncodeLeadSearched,
+    /// `scp_index_add`
+    IndexAdd,
+    /// `scp_index_find`, with entries found, or refused
+    IndexFind,
+    /// `scp_index_find`, with nothing found
+    IndexFindNothing,
+    /// `scp_index_step`, with an entry shown
+    IndexStep,
+    /// `scp_index_step`, with none shown
+    IndexStepNone,
+}
+
+/// Indexes that were built from records, one by one and afresh.
+#[derive(Clone, Copy, Debug, Default, PartialEq, Eq)]
+pub struct Built {
+    /// How many.
+    pub indexes: u64,
+    /// The entries that were added to them.
+    pub entries: u64,
+    /// Entries that were put before others.
+    pub before: u64,
+    /// Entries that were put behind an equal one, which has another number of leads.
+    pub behind_equal: u64,
+    /// Entries of an identifier that begins another one's, or begins with it.
+    pub begun: u64,
 }
 
 /// How many inputs of each kind there were, and how often each call answered what.
@@ -43,6 +68,8 @@ pub struct Tally {
     every_place: u64,
     to_encode: u64,
     bits: u64,
+    /// The indexes that were built.
+    pub built: Built,
 }
 
 impl Tally {
@@ -76,6 +103,11 @@ impl Tally {
         self.bits += u64::from(count);
     }
 
+    /// How often a call answered a number.
+    pub fn times(&self, call: Call, number: u8) -> u64 {
+        self.answers.get(&(call, number)).copied().unwrap_or(0)
+    }
+
     /// The numbers among these that a call never answered.
     pub fn never_reached(&self, call: Call, numbers: &[u8]) -> Vec<u8> {
         let reached = |number| self.answers.contains_key(&(call, number));
@@ -103,6 +135,12 @@ impl fmt::Display for Tally {
             f,
             "compare: {} leads to encode, streams of {} bits in all",
             self.to_encode, self.bits
+        )?;
+        let built = self.built;
+        writeln!(
+            f,
+            "compare: {} indexes built, {} entries ({} before others, {} behind an equal one, {} begin another or with it)",
+            built.indexes, built.entries, built.before, built.behind_equal, built.begun
         )?;
         write!(
             f,

@@ -1,11 +1,11 @@
-//! The library against the judge on 20,480 inputs and 5,120 leads to encode, always the same; every row of the table that
-//! each call can give is reached. Then the encoder against all streams, on 40,000 sets of small tables; then the writer on
-//! 10,240 jobs, every refusal reached. It has no test harness, so that its counts are always shown.
+//! The library against the judge on 20,480 inputs, 5,120 leads to encode and 2,560 indexes to build, always the same; every row
+//! of the table that each call can give is reached. Then the encoder against all streams, on 40,000 sets of small tables; then
+//! the writer on 10,240 jobs, every refusal reached. It has no test harness, so that its counts are always shown.
 
 use std::process::exit;
 
 use compare::encoding::brute;
-use compare::tally::Call;
+use compare::tally::{Call, Tally};
 use compare::writing;
 
 const SEED: u64 = 2001;
@@ -14,9 +14,11 @@ const SETS: u64 = 40_000;
 const JOBS: u64 = 10_240;
 /// At least this many of the sets have each thing that makes the choice of a stream hard.
 const ENOUGH: u64 = 10_000;
+/// At least this many entries are put where the order of an index is easily got wrong.
+const ENOUGH_ENTRIES: u64 = 1_000;
 
 /// The answers that each call can give: 0, and the refusals.
-const ROWS: [(Call, &[u8]); 9] = [
+const ROWS: [(Call, &[u8]); 14] = [
     (Call::Open, &[0, 1, 2, 3, 4, 5, 6]),
     (Call::Field, &[0, 1, 2, 3, 4, 5, 6, 10]),
     (Call::WalkStart, &[0, 1, 2, 3, 4, 5, 6]),
@@ -29,7 +31,26 @@ const ROWS: [(Call, &[u8]); 9] = [
     (Call::ReadLeadWithBeat, &[0, 12, 13, 14]),
     (Call::EncodeLead, &[0, 7, 11, 15, 16, 17]),
     (Call::EncodeLeadSearched, &[0, 11, 15, 16]),
+    (Call::IndexAdd, &[0, 1, 2, 3, 4, 5, 6, 8, 11, 24, 26]),
+    (Call::IndexFind, &[0, 26]),
+    (Call::IndexFindNothing, &[0]),
+    (Call::IndexStep, &[0]),
+    (Call::IndexStepNone, &[0]),
 ];
+
+/// What a run has not met, if there is something.
+fn not_met(tally: &Tally) -> Option<String> {
+    for (call, rows) in ROWS {
+        let missing = tally.never_reached(call, rows);
+        if !missing.is_empty() {
+            return Some(format!("{call:?} never answered {missing:?}"));
+        }
+    }
+    let built = tally.built;
+    let special = [built.before, built.behind_equal, built.begun];
+    let enough = special.iter().all(|&count| count >= ENOUGH_ENTRIES);
+    (!enough).then(|| "indexes: too few entries of some kind".to_string())
+}
 
 fn main() {
     let fail = |words: String| -> ! {
@@ -38,11 +59,8 @@ fn main() {
     };
     let tally = compare::run(SEED, COUNT).unwrap_or_else(|difference| fail(difference));
     println!("{tally}");
-    for (call, rows) in ROWS {
-        let missing = tally.never_reached(call, rows);
-        if !missing.is_empty() {
-            fail(format!("{call:?} never answered {missing:?}"));
-        }
+    if let Some(words) = not_met(&tally) {
+        fail(words);
     }
 
     let counts = brute::run(SEED, SETS).unwrap_or_else(|difference| fail(difference));

@@ -1,15 +1,16 @@
-//! Every call on a thread with a small stack: 64 KiB for those on the header, 256 KiB for those that read, encode and write
-//! leads, which have room of their own.
+//! Every call on a thread with a small stack: 64 KiB for those on the header and on the index, 256 KiB for those that read,
+//! encode and write leads, which have room of their own.
 
 use std::ops::Range;
 use std::thread;
 
 use compare::encoding::{self, Job};
 use compare::extremes;
+use compare::index;
 use compare::inputs::{self, Kind};
 use compare::largest::{largest, Filling};
 use compare::writing::{self, counts::Counts, edges};
-use judge::make::{self, Rng, ToWrite};
+use judge::make::{self, Arrival, Rng, ToWrite};
 use judge::{row, Refused};
 use scp::{Pointer, Refusal};
 
@@ -25,6 +26,16 @@ struct Answers {
     section: Result<Range<usize>, u8>,
     fields: usize,
     same: bool,
+    /// The bytes in use of an index that it is added to.
+    added: Result<Vec<u8>, u8>,
+}
+
+/// An entry of 7, to which a record is added.
+const ENTRY: [u8; 6] = [0x07, 0xFF, 0xFF, 0x3E, 0x40, b'7'];
+
+/// The entry of 7, and room for another one.
+fn index_of_one() -> Vec<u8> {
+    [&ENTRY[..], &[0; scp::ENTRY_MAX]].concat()
 }
 
 const ASKED: [(u8, usize); 4] = [(2, 1), (30, 2), (30, usize::MAX), (255, 1)];
@@ -32,6 +43,8 @@ const ASKED: [(u8, usize); 4] = [(2, 1), (30, 2), (30, usize::MAX), (255, 1)];
 fn library(record: &[u8]) -> Answers {
     let number = Refusal::number;
     let stored = |p: Pointer| (p.id, p.length, p.index);
+    let mut index = index_of_one();
+    let used = scp::index_add(&mut index, ENTRY.len(), record);
     Answers {
         crc: scp::crc(record),
         open: scp::open(record)
@@ -41,6 +54,7 @@ fn library(record: &[u8]) -> Answers {
         section: scp::walk_start(record).map_err(number),
         fields: scp::fields(record).map_or(0, Iterator::count),
         same: scp::same_identifier(record, record),
+        added: used.map(|used| index[..used].to_vec()).map_err(number),
     }
 }
 
@@ -59,6 +73,7 @@ fn judge(record: &[u8]) -> Answers {
         section,
         fields,
         same: judge::same_identifier(record, record),
+        added: judge::index_add(&index_of_one(), ENTRY.len(), record),
     }
 }
 
@@ -90,6 +105,91 @@ fn made_records_fit_a_small_stack() {
     for (answers, record) in answers.iter().zip(&records) {
         assert_eq!(*answers, judge(record));
     }
+}
+
+// ---- the index
+
+const ENTRIES: u64 = 200_000;
+
+/// An index of many entries of 14 March 2024, all in use: the identifier of each by its number.
+fn large(identifier: impl Fn(u64) -> String) -> Vec<u8> {
+    let one = |number| {
+        let identifier = identifier(number);
+        let head = [identifier.len() as u64, 2024, 3, 14, number % 33, 0];
+        index::entry(head, identifier.as_bytes())
+    };
+    (0..ENTRIES).map(one).collect::<Vec<_>>().concat()
+}
+
+/// An identifier, a record of it with 12 leads, and an index with just enough room for its entry; and what is right.
+struct Filing {
+    identifier: Vec<u8>,
+    record: Vec<u8>,
+    index: Vec<u8>,
+    added: Result<Vec<u8>, u8>,
+    found: Result<Range<usize>, u8>,
+}
+
+impl Filing {
+    fn new(identifier: &str, index: &[u8]) -> Filing {
+        let arrival = Arrival {
+            identifier: identifier.into(),
+            date: [0xE8, 7, 3, 14],
+            leads: Some(12),
+        };
+        let record = arrival.record(&mut Rng::new(9));
+        let used = index.len();
+        let index = [index, &vec![0xEE; index::HEAD + identifier.len()]].concat();
+        Filing {
+            added: judge::index_add(&index, used, &record),
+            found: judge::index_find(&index, used, identifier.as_bytes()),
+            identifier: arrival.identifier,
+            record,
+            index,
+        }
+    }
+
+    /// Has the library look it up, and add it with just enough room and with one byte less.
+    fn by_library(&self, used: usize, rng: &mut Rng) -> Result<(), String> {
+        let found = scp::index_find(&self.index, used, &self.identifier).map_err(Refusal::number);
+        let place = found.map(|part| {
+            let start = part.as_ptr() as usize - self.index.as_ptr() as usize;
+            start..start + part.len()
+        });
+        assert_eq!(place, self.found);
+        index::by_library(&self.index, used, &self.record, &self.added, rng)?;
+        let short = &self.index[..self.index.len() - 1];
+        index::by_library(short, used, &self.record, &Err(row::ROOM), rng)
+    }
+}
+
+/// Steps over an index, looks up identifiers in it and adds records of them, on a small stack, and holds all answers to the
+/// judge's. The index is not on the stack.
+fn indexed_on_a_small_stack(index: &[u8], identifiers: &[&str]) {
+    let filings: Vec<_> = identifiers
+        .iter()
+        .map(|identifier| Filing::new(identifier, index))
+        .collect();
+    let calls = || {
+        assert_eq!(scp::index_entries(index).count() as u64, ENTRIES);
+        let rng = &mut Rng::new(5);
+        filings
+            .iter()
+            .try_for_each(|filing| filing.by_library(index.len(), rng))
+    };
+    let answer = thread::scope(|scope| {
+        let thread = thread::Builder::new().stack_size(STACK);
+        thread.spawn_scoped(scope, calls).unwrap().join().unwrap()
+    });
+    assert_eq!(answer, Ok(()));
+}
+
+#[test]
+fn large_indexes_fit_a_small_stack() {
+    let many_people = large(|number| format!("{:06}", 2 * number + 2));
+    indexed_on_a_small_stack(&many_people, &["0", "200000", "200001", "400001"]);
+    let one_person = large(|_| "007".to_string());
+    indexed_on_a_small_stack(&one_person, &["00", "007"]);
 }
 
 // ---- leads

@@ -13,9 +13,9 @@ const END: u8 = 255;
 const TAG_AND_LENGTH: usize = 3;
 /// Tags that occur exactly once.
 const ONCE: [u8; 4] = [IDENTIFIER, DEVICE, DATE, TIME];
-const IDENTIFIER: u8 = 2;
+pub const IDENTIFIER: u8 = 2;
 const DEVICE: u8 = 14;
-const DATE: u8 = 25;
+pub const DATE: u8 = 25;
 const TIME: u8 = 26;
 /// Section 1 may have this many bytes after its end mark.
 const SPARE: usize = 1;

@@ -93,6 +93,14 @@ pub fn absent(record: &[u8], place: usize) -> Vec<Finding> {
     found.list()
 }
 
+/// The number of leads in Section 3, 0 without it; only Section 3's own rules are judged, not what
+/// it needs of others (02, Q-13).
+pub fn number_of_leads(record: &[u8]) -> Result<usize, Vec<Finding>> {
+    let mut found = Findings::new(row::SECTIONS_3_TO_6, Some(3));
+    let number = data_of(record, 3).map_or(0, |data| spans(data, &mut found).1);
+    found.or(Some(number))
+}
+
 /// Sections 3 to 6 judged; `None` if neither Section 3 nor Section 6 is there.
 pub fn rhythm(record: &[u8]) -> Result<Option<Rhythm<'_>>, Vec<Finding>> {
     let mut found = Findings::new(row::SECTIONS_3_TO_6, Some(3));

@@ -1,5 +1,5 @@
-//! An independent reading of document 01, as Q-1 of document 02 changes it, to compare the proved
-//! library with.
+//! An independent reading of document 01, as Q-1 of document 02 changes it, and of Q-13's index, to
+//! compare the proved library with.
 //!
 //! Each call judges the bytes it is given by itself and answers what the rules say, or the number
 //! of the refusal. A refusal can be explained: [`lead_findings`], [`job_findings`] and
@@ -16,6 +16,7 @@ mod differences;
 mod encoding;
 mod finding;
 mod header;
+mod index;
 mod judging;
 mod leads;
 pub mod make;
@@ -39,6 +40,8 @@ pub use finding::{
     ZoneFault,
 };
 pub use header::{same_identifier, walk_step, Step};
+pub use index::{built_index, index_add, index_entry, index_find, index_step};
+pub use index::{IndexEntry, IndexStep};
 pub use judging::{breaks, findings};
 pub use opening::{field, open, walk_start};
 pub use reading::{lead, lead_findings, read_lead, Entry, Lead, Reader};

@@ -1,4 +1,5 @@
-//! The rows of the table of refusals, by name (01, Refusal numbers).
+//! The rows of the table of refusals, by name (01, Refusal numbers), and the numbers that requests
+//! add (02).
 
 pub const LENGTH: u8 = 1;
 pub const RECORD_CHECK: u8 = 2;
@@ -18,3 +19,7 @@ pub const LEFT_OVER_BITS: u8 = 14;
 pub const NO_STREAM: u8 = 15;
 pub const TOO_LONG: u8 = 16;
 pub const WRITER_BOUNDS: u8 = 17;
+/// A date that no entry of the index can have (02, Q-13).
+pub const DATE: u8 = 24;
+/// Bytes in use that are no index, or more than was lent (02, Q-13).
+pub const INDEX: u8 = 26;

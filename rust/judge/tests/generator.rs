@@ -2,7 +2,7 @@
 //! table is reached.
 
 use judge::make::{self, Rng};
-use judge::{breaks, encode_lead, lead, open, read_lead, row, write_record};
+use judge::{breaks, encode_lead, index_add, lead, open, read_lead, row, write_record};
 
 /// Room for any lead and any beat.
 const ROOM: usize = 65_536;
@@ -98,5 +98,26 @@ fn every_row_of_the_writer_is_reached() {
     }
     for row in [0, 6, 7, 11, 15, 16, 17] {
         assert!(writing[row] > 3, "row {row} of {writing:?}");
+    }
+}
+
+#[test]
+fn every_row_of_the_index_is_reached() {
+    let mut counts = [0; 27];
+    for seed in 0..3_000 {
+        let rng = &mut Rng::new(seed);
+        let record = make::damaged(rng);
+        let record = make::dated(rng, record);
+        let broken = make::broken_index(rng);
+        let sound = make::index(rng);
+        let lent = [&sound[..], &rng.bytes(6)].concat();
+        for (index, used) in [(broken.bytes, broken.used), (lent, sound.len())] {
+            let added = index_add(&index, used, &record);
+            counts[usize::from(added.err().unwrap_or(0))] += 1;
+        }
+    }
+    println!("{counts:?}");
+    for row in [0, 1, 2, 3, 4, 5, 6, 8, 11, 24, 26] {
+        assert!(counts[row] > 50, "row {row} of {counts:?}");
     }
 }

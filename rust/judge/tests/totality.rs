@@ -2,6 +2,7 @@
 
 use judge::make::{self, Rng};
 use judge::{breaks, field, lead, open, read_lead, row, walk_start, walk_step};
+use judge::{index_add, index_entry, index_find, index_step};
 
 /// Every call on these bytes.
 fn call_all(rng: &mut Rng, bytes: &[u8]) {
@@ -38,6 +39,26 @@ fn call_all(rng: &mut Rng, bytes: &[u8]) {
     ] {
         let step = walk_step(bytes, at);
         assert!(step.is_none_or(|step| step.next <= bytes.len() && step.start == at + 3));
+        let step = index_step(bytes, at);
+        assert!(step.is_none_or(|step| step.next <= bytes.len() && step.start == at + 5));
+    }
+    call_index(rng, bytes);
+}
+
+/// The calls of the index on these bytes, as a record and as an index.
+fn call_index(rng: &mut Rng, bytes: &[u8]) {
+    let entry = index_entry(bytes);
+    let index = make::index(rng);
+    let lent = [&index[..], &[0; 68]].concat();
+    let added = index_add(&lent, index.len(), bytes);
+    assert_eq!(added.as_ref().err(), entry.as_ref().err());
+    let size = entry.map_or(0, |entry| 5 + entry.identifier.len());
+    assert!(added.is_ok_and(|added| added.len() == index.len() + size) || size == 0);
+    for used in [0, 5, bytes.len(), bytes.len() + 1, usize::MAX] {
+        let found = index_find(bytes, used, b"7");
+        let added = index_add(bytes, used, bytes);
+        assert_eq!(found.is_err(), added == Err(row::INDEX));
+        assert!(used <= bytes.len() || found == Err(row::INDEX));
     }
 }
 
@@ -51,6 +72,11 @@ fn every_call_ends() {
             _ => make::damaged(rng),
         };
         call_all(rng, &bytes);
+    }
+    for seed in 0..500 {
+        let rng = &mut Rng::new(seed);
+        let index = make::broken_index(rng);
+        call_all(rng, &index.bytes);
     }
     for length in 0..=300 {
         let rng = &mut Rng::new(length);

@@ -102,7 +102,7 @@ impl Iterator for Fields<'_> {
 impl FusedIterator for Fields<'_> {}
 
 /// A part that was answered, as a range.
-fn part(part: raw::ScpPart) -> Result<Range<usize>, Refusal> {
+pub(crate) fn part(part: raw::ScpPart) -> Result<Range<usize>, Refusal> {
     Refusal::or(part.refusal, ())?;
     Ok(part.start..part.start + part.length)
 }

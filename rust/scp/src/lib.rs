@@ -61,11 +61,25 @@
 //! }
 //! # Ok::<(), std::io::Error>(())
 //! ```
+//!
+//! An index has an entry for each record, sorted by identifier and date, and shows all records of a patient:
+//!
+//! ```no_run
+//! let record = std::fs::read("record.scp")?;
+//! let mut index = vec![0; 1000 * scp::ENTRY_MAX];
+//! let used = scp::index_add(&mut index, 0, &record).expect("the record is sound");
+//! let found = scp::index_find(&index, used, b"007").expect("the index was made by the library");
+//! for entry in scp::index_entries(found) {
+//!     println!("{}-{:02}-{:02}: {} leads", entry.year, entry.month, entry.day, entry.leads);
+//! }
+//! # Ok::<(), std::io::Error>(())
+//! ```
 
 #![warn(missing_docs)]
 
 mod encoding;
 mod fields;
+mod index;
 mod leads;
 pub mod raw;
 mod record;
@@ -75,6 +89,9 @@ mod writing;
 pub use encoding::{encode_lead, shortest, Coded, STREAM_MAX, TABLES_MAX};
 pub use fields::{
     field, fields, same_identifier, walk_start, walk_step, Field, Fields, Step, FIRST_FIELD,
+};
+pub use index::{
+    index_add, index_entries, index_find, index_step, IndexEntries, IndexEntry, ENTRY_MAX,
 };
 pub use leads::{lead, leads, read_lead, samples, Entry, Lead, LEADS_MAX, SAMPLES_MAX};
 pub use record::{breaks, crc, open, Pointer, RECORD_MAX};

@@ -115,6 +115,38 @@ pub struct ScpWritten {
     pub bytes: u32,
 }
 
+/// An index that a record was added to.
+#[repr(C)]
+#[derive(Clone, Copy, Debug, Default, PartialEq, Eq)]
+pub struct ScpIndexed {
+    /// 0, or the refusal.
+    pub refusal: u8,
+    /// How many bytes of the index are in use.
+    pub used: usize,
+}
+
+/// An entry of an index.
+#[repr(C)]
+#[derive(Clone, Copy, Debug, Default, PartialEq, Eq)]
+pub struct ScpIndexEntry {
+    /// 1 if an entry was shown, 0 where there is none.
+    pub more: u8,
+    /// The month, 1 to 12.
+    pub month: u8,
+    /// The day, 1 to 31.
+    pub day: u8,
+    /// How many leads the record has.
+    pub leads: u8,
+    /// The year.
+    pub year: u16,
+    /// Where the identifier's bytes start in the index, from 0.
+    pub start: usize,
+    /// How many bytes it has.
+    pub length: usize,
+    /// Where the next step is to be taken.
+    pub next: usize,
+}
+
 extern "C" {
     /// The check of `n` bytes.
     pub fn scp_crc(p: *const u8, n: usize) -> u16;
@@ -178,6 +210,24 @@ extern "C" {
         out: *mut u8,
         out_n: usize,
     ) -> ScpWritten;
+    /// Adds a record to an index.
+    pub fn scp_index_add(
+        index: *mut u8,
+        n: usize,
+        used: usize,
+        record: *const u8,
+        m: usize,
+    ) -> ScpIndexed;
+    /// Finds the entries of an identifier.
+    pub fn scp_index_find(
+        index: *const u8,
+        n: usize,
+        used: usize,
+        identifier: *const u8,
+        k: usize,
+    ) -> ScpPart;
+    /// Shows the entry at a place of an index.
+    pub fn scp_index_step(index: *const u8, n: usize, at: usize) -> ScpIndexEntry;
 }
 
 // ---- the calls that room is lent to, on slices
@@ -250,6 +300,20 @@ pub fn write_record(job: &Job, work: &mut [u8], out: &mut [u8]) -> ScpWritten {
             work.len(),
             out.as_mut_ptr(),
             out.len(),
+        )
+    }
+}
+
+/// [`scp_index_add`] on slices.
+pub fn index_add(index: &mut [u8], used: usize, record: &[u8]) -> ScpIndexed {
+    // SAFETY: both are slices lent for the call, which only reads the second; they share no memory.
+    unsafe {
+        scp_index_add(
+            index.as_mut_ptr(),
+            index.len(),
+            used,
+            record.as_ptr(),
+            record.len(),
         )
     }
 }

@@ -21,12 +21,18 @@ pub enum Given {
     Leads,
     /// Those that ask for a lead, and those that encode one.
     LeadsAndWriting,
+    /// Those that ask for a lead, and adding to an index.
+    LeadsAndAdding,
     /// Reading a lead.
     Streams,
     /// All that are lent a buffer.
     Lending,
     /// Encoding a lead and writing a record.
     Writing,
+    /// Adding a record to an index.
+    Adding,
+    /// All that judge an index.
+    Indexes,
 }
 
 /// A refusal's row of the table.
@@ -144,11 +150,12 @@ prefix 101.",
         plain: "\
 Sections 3 to 6 say which leads there are, 1 to 32 of at most 65,536 samples, how
 their samples are stored, and in which zones a reference beat was subtracted. Each
-is complete, within its bounds, and present if another needs it.",
+is complete, within its bounds, and present if another needs it. Adding to an index
+asks this of Section 3 alone, if there is one.",
         example: "\
 in samples/refused-8.scp two zones of the reference beat share
 sample 10.",
-        given: Given::Leads,
+        given: Given::LeadsAndAdding,
     }
     BIMODAL_STEP_INTERVAL = 9 {
         name: "bimodal, step, interval",
@@ -177,7 +184,8 @@ them absent.",
         rule: "the buffers lent are large enough",
         plain: "\
 A program that called the library lent it a buffer that is too small for the answer,
-or too little work space. This tool always lends enough.",
+too little work space, or an index with no room for another entry. This tool always
+lends enough.",
         example: "a lead of 8 samples is read into a buffer for 7.",
         given: Given::Lending,
     }
@@ -247,6 +255,29 @@ each, an order of 0 to 2, a step and an interval over 0, and sample numbers from
 that fit 32 bits; or the samples lent are more or fewer than the leads' counts say.",
         example: "a job that has no lead.",
         given: Given::Writing,
+    }
+    DATE = 24 {
+        name: "the date",
+        rule: "the date of a record in an index, tag 25, has a month of 1 to 12 and a day of 1 to 31",
+        plain: "\
+A record is to be added to an index, and its date, tag 25, has a month outside 1 to
+12 or a day outside 1 to 31. Any year is taken, and each of these days in any month.
+Opening a record does not ask this.",
+        example: "a record with the date 2024-00-14 opens, and has no entry in an index.",
+        given: Given::Adding,
+    }
+    INDEX = 26 {
+        name: "the index",
+        rule: "the bytes in use of an index are complete entries in their order, and no more than it has",
+        plain: "\
+An index has an entry for each record, sorted by identifier and then by date. An
+entry is five bytes, which hold the identifier's length (1 to 63), the year, the
+month (1 to 12), the day (1 to 31), the number of leads (0 to 32) and a bit that is
+0, and then the identifier without its NUL. Here some bytes are no such entry, or
+two entries are in the wrong order, or more bytes are said to be in use than there
+are.",
+        example: "an index that has lost its last byte.",
+        given: Given::Indexes,
     }
 }
 

@@ -1,6 +1,6 @@
 //! The safe calls, on what can be worked out by hand. `compare` has the many inputs.
 
-use scp::{Coded, Entry, Job, Lead, Refusal, Step, FIRST_FIELD};
+use scp::{Coded, Entry, IndexEntry, Job, Lead, Refusal, Step, ENTRY_MAX, FIRST_FIELD};
 
 /// A file of `samples/`.
 fn sample(name: &str) -> Vec<u8> {
@@ -493,6 +493,211 @@ fn room_is_made_for_a_record() {
         ..JOB
     };
     assert_eq!((none.work_room(), refused(none)), (0, bounds));
+}
+
+// ---- the index
+
+/// The entry of `007.scp`: the patient 007 on 2024-03-14, no leads. In bits: 000011, then the year 0000011111101000, the month
+/// 0011, the day 01110, the leads 00000000, and 0.
+const ENTRY: [u8; 8] = [0x0C, 0x1F, 0xA0, 0xDC, 0x00, b'0', b'0', b'7'];
+
+/// How many bytes of [`FIELDS`] there are from the month on, and from the day on.
+const MONTH_TO_END: usize = 11;
+const DAY_TO_END: usize = 10;
+
+/// A record with this identifier, of this month and day of 2024, with the two leads of [`JOB`] or with the first alone.
+fn record_of(identifier: &[u8], date: [u8; 2], leads: usize) -> Vec<u8> {
+    let length = identifier.len() as u8 + 1;
+    let mut section1 = [&[2, length, 0][..], identifier, &FIELDS[6..]].concat();
+    let at = section1.len() - MONTH_TO_END;
+    section1[at..][..2].copy_from_slice(&date);
+    let samples = JOB.counts[..leads].iter().sum::<u32>() as usize;
+    let job = Job {
+        section1: &section1,
+        firsts: &JOB.firsts[..leads],
+        counts: &JOB.counts[..leads],
+        ids: &JOB.ids[..leads],
+        samples: &JOB.samples[..samples],
+        ..JOB
+    };
+    scp::written(&job).unwrap()
+}
+
+/// An index of these records, in order of arrival.
+fn index_of(records: &[Vec<u8>]) -> Vec<u8> {
+    let mut index = vec![0; records.len() * ENTRY_MAX];
+    let used = records.iter().fold(0, |used, record| {
+        scp::index_add(&mut index, used, record).unwrap()
+    });
+    index.truncate(used);
+    index
+}
+
+/// An entry of 2024: identifier, month and day, leads.
+type Shown<'a> = (&'a [u8], [u8; 2], u8);
+
+/// An index's entries.
+fn listed(index: &[u8]) -> Vec<Shown<'_>> {
+    let shown = |entry: IndexEntry| {
+        assert_eq!(entry.year, 2024);
+        let date = [entry.month, entry.day];
+        (&index[entry.identifier], date, entry.leads)
+    };
+    scp::index_entries(index).map(shown).collect()
+}
+
+#[test]
+fn an_entry_is_five_bytes_and_the_identifier() {
+    let mut index = [77; 10];
+    assert_eq!(scp::index_add(&mut index, 0, &record()), Ok(8));
+    assert_eq!((&index[..8], &index[8..]), (&ENTRY[..], &[77, 77][..]));
+    let entry = IndexEntry {
+        identifier: 5..8,
+        year: 2024,
+        month: 3,
+        day: 14,
+        leads: 0,
+    };
+    assert_eq!(entry.next(), 8);
+    assert_eq!(scp::index_step(&index, 0), Some(entry));
+    let six = index_of(&[sample("limb-leads.scp")]);
+    assert_eq!(six[..5], [0x0C, 0x1F, 0xA0, 0xDC, 6 << 1]);
+    let longest = index_of(&[record_of(&[b'x'; 63], [3, 31], 2)]);
+    assert_eq!(longest.len(), ENTRY_MAX);
+    assert_eq!(longest[..5], [0xFC, 0x1F, 0xA0, 0xFE, 2 << 1]);
+}
+
+#[test]
+fn an_index_is_sorted_by_identifier_and_date() {
+    let records = [
+        record_of(b"7", [3, 2], 1),
+        record_of(b"007", [3, 2], 2),
+        record_of(b"0071", [3, 1], 2),
+        record_of(b"007", [3, 2], 1), // the same date: behind the one before it, though it has fewer leads
+        record_of(b"007", [2, 31], 2),
+        record_of(b"00", [12, 31], 2),
+        record_of(b"\xFF", [1, 1], 2),
+    ];
+    let index = index_of(&records);
+    let order: [Shown; 7] = [
+        (b"00", [12, 31], 2),
+        (b"007", [2, 31], 2),
+        (b"007", [3, 2], 2),
+        (b"007", [3, 2], 1),
+        (b"0071", [3, 1], 2),
+        (b"7", [3, 2], 1),
+        (b"\xFF", [1, 1], 2),
+    ];
+    assert_eq!(listed(&index), order);
+    let mut entries = scp::index_entries(&index);
+    assert_eq!((entries.by_ref().count(), entries.at()), (7, index.len()));
+    assert_eq!((entries.next(), entries.at()), (None, index.len()));
+    let mut entries = scp::index_entries(&index[..20]);
+    assert_eq!((entries.by_ref().count(), entries.at()), (2, 15));
+}
+
+#[test]
+fn a_lookup_shows_all_entries_of_an_identifier_and_no_others() {
+    let records = [(&b"007"[..], 2), (b"7", 1), (b"0071", 1), (b"007", 1)];
+    let index = index_of(&records.map(|(identifier, day)| record_of(identifier, [3, day], 1)));
+    let found = |identifier| scp::index_find(&index, index.len(), identifier).unwrap();
+    let entries: [Shown; 2] = [(b"007", [3, 1], 1), (b"007", [3, 2], 1)];
+    assert_eq!(listed(found(b"007")), entries);
+    assert_eq!(found(b"007"), &index[..16]);
+    assert_eq!(found(b"0071"), &index[16..25]);
+    assert_eq!(found(b"7"), &index[25..]);
+    for none in [&b""[..], b"0", b"07", b"007\0", b"8", &[b'0'; 64]] {
+        assert_eq!(found(none), b"", "{none:?}");
+    }
+    assert_eq!(scp::index_find(&[], 0, b"007"), Ok(&[][..]));
+    assert_eq!(scp::index_find(&index, 16, b"7"), Ok(&[][..]));
+    assert_eq!(scp::index_find(&index, 17, b"7"), Err(Refusal::INDEX));
+    let past = scp::index_find(&index, index.len() + 1, b"7");
+    assert_eq!(past, Err(Refusal::INDEX));
+}
+
+#[test]
+fn only_whole_entries_by_the_rules_are_shown() {
+    let changed = |at: usize, byte| {
+        let mut index = ENTRY;
+        index[at] = byte;
+        (
+            scp::index_step(&index, 0).is_some(),
+            scp::index_find(&index, index.len(), b"").err(),
+        )
+    };
+    let (whole, broken) = ((true, None), (false, Some(Refusal::INDEX)));
+    assert_eq!(changed(0, 0x0C), whole);
+    assert_eq!(changed(1, 0xFF), whole, "any year");
+    assert_eq!(changed(4, 32 << 1), whole);
+    assert_eq!(changed(0, 0x00), broken, "an empty identifier");
+    assert_eq!(changed(0, 0x10), broken, "one that is cut off");
+    assert_eq!(changed(6, 0), broken, "one with a NUL");
+    assert_eq!(changed(3, 0x1C), broken, "month 0");
+    assert_eq!(changed(2, 0xA3), broken, "month 15");
+    assert_eq!(changed(3, 0xC0), broken, "day 0");
+    assert_eq!(changed(4, 33 << 1), broken, "33 leads");
+    assert_eq!(changed(4, 1), broken, "the last bit");
+    for (length, at) in [(7, 0), (4, 0), (0, 0), (8, 8), (8, 1), (8, usize::MAX)] {
+        assert_eq!(scp::index_step(&ENTRY[..length], at), None);
+    }
+}
+
+/// A record with a byte of a section's data changed, and its checks put right.
+fn changed(mut record: Vec<u8>, section: usize, at: usize, byte: u8) -> Vec<u8> {
+    let pointer = scp::open(&record).unwrap()[section];
+    let start = pointer.index as usize - 1;
+    let end = start + pointer.length as usize;
+    record[start + 16 + at] = byte;
+    let check = scp::crc(&record[start + 2..end]);
+    record[start..start + 2].copy_from_slice(&check.to_le_bytes());
+    let check = scp::crc(&record[2..]);
+    record[..2].copy_from_slice(&check.to_le_bytes());
+    record
+}
+
+#[test]
+fn adding_is_refused_in_its_order() {
+    let refused = |index: &[u8], used, record: &[u8]| {
+        let mut lent = index.to_vec();
+        let refused = scp::index_add(&mut lent, used, record).unwrap_err();
+        assert_eq!(lent, index, "a refusal changes nothing");
+        refused
+    };
+    let sound = sample("two-leads.scp");
+    let no_leads = changed(sound.clone(), 3, 0, 0);
+    let [month, day] = [MONTH_TO_END, DAY_TO_END].map(|bytes| FIELDS.len() - bytes);
+    let bad_date = changed(record_of(b"007", [3, 1], 1), 1, month, 13);
+    let both = changed(bad_date.clone(), 3, 0, 33);
+    let unsorted = [index_of(&[sample("7.scp")]), ENTRY.to_vec()].concat();
+    assert_eq!(refused(&[], 1, &[]), Refusal::INDEX);
+    assert_eq!(refused(&ENTRY, 9, &sound), Refusal::INDEX);
+    assert_eq!(refused(&ENTRY, 7, &sound), Refusal::INDEX);
+    assert_eq!(refused(&unsorted, unsorted.len(), &[]), Refusal::INDEX);
+    assert_eq!(refused(&ENTRY, 8, &[]), Refusal::LENGTH);
+    for number in 1..=6 {
+        let record = sample(&format!("refused-{number}.scp"));
+        assert_eq!(refused(&ENTRY, 8, &record).number(), number);
+    }
+    assert_eq!(refused(&ENTRY, 8, &no_leads), Refusal::SECTIONS_3_TO_6);
+    assert_eq!(refused(&ENTRY, 8, &both), Refusal::SECTIONS_3_TO_6);
+    assert_eq!(refused(&ENTRY, 8, &bad_date), Refusal::DATE);
+    for (at, byte) in [(month, 0), (day, 0), (day, 32)] {
+        let record = changed(record_of(b"007", [3, 1], 1), 1, at, byte);
+        assert_eq!(refused(&ENTRY, 8, &record), Refusal::DATE);
+    }
+    assert_eq!(refused(&ENTRY, 8, &sound), Refusal::ROOM);
+    assert_eq!(refused(&[0; 10], 0, &sound), Refusal::ROOM);
+    assert_eq!(scp::index_add(&mut [0; 11], 0, &sound), Ok(11));
+}
+
+/// An index asks of Section 3 alone what reading asks of Sections 2 to 6.
+#[test]
+fn records_whose_leads_are_refused_have_an_entry() {
+    for number in [7, 8, 9, 10, 12, 13, 14] {
+        let index = index_of(&[sample(&format!("refused-{number}.scp"))]);
+        assert_eq!(listed(&index), [(&b"007"[..], [3, 14], 2)], "{number}");
+    }
 }
 
 /// The C header has the table's numbers under their names, and no other.

@@ -1,19 +1,25 @@
 //! The words of the command line, and the help on them.
 
+mod index;
+
 use std::path::PathBuf;
 
 use clap::{Parser, Subcommand};
 use clap_complete::Shell;
 use scp::Refusal;
 
+pub use index::{Form, Index};
+
 /// The end of the tool's help, and of the help of a command for many records.
 const STATUS: &str = "\
 Exit status:
   0  every file was accepted
-  1  some file was refused, or some lead of it, or pack left it alone
+  1  some file was refused, or some lead of it, or pack left it alone, or an
+     identifier has no entry
   2  some of the work could not be done: a file could not be read, an answer
      not written, no file was found, or the command line is not understood
-  130  check was interrupted (Ctrl-C): its summary is of the files until then
+  130  check was interrupted (Ctrl-C): its summary is of the files until then;
+     or index add was, and the index is as it was
 
 A FILE of - is standard input. A file that is refused or cannot be read never
 stops the others.";
@@ -287,12 +293,25 @@ pub enum Command {
         #[arg(long)]
         force: bool,
     },
+    /// Keep an index of records, and look identifiers up in it
+    ///
+    /// An index is a file with an entry for each record that was added to it: the
+    /// patient identifier, the date of recording and the number of leads, sorted by
+    /// identifier and then by date. It says which records of a patient there are, and of
+    /// when, without the records.
+    #[command(verbatim_doc_comment, after_help = index::ALL)]
+    #[command(arg_required_else_help = true, disable_help_subcommand = true)]
+    Index {
+        /// What is to be done with an index.
+        #[command(subcommand)]
+        command: Index,
+    },
     /// Show this help, or that of a command
     #[command(after_help = NONE)]
     Help {
         /// The command
         #[arg(value_name = "COMMAND")]
-        command: Option<String>,
+        command: Vec<String>,
     },
     /// Write the manual page, to be read by man
     ///

@@ -48,11 +48,27 @@ pub fn escaped(bytes: &[u8]) -> String {
     pieces(bytes).map(|piece| piece.shown).collect()
 }
 
+/// All of a string of bytes in quotes, a quote in it escaped.
+pub fn quoted(bytes: &[u8]) -> String {
+    let inner = pieces(bytes).map(|piece| match piece.shown.as_str() {
+        "\"" => "\\\"".to_string(),
+        _ => piece.shown,
+    });
+    format!("\"{}\"", inner.collect::<String>())
+}
+
 #[cfg(test)]
 mod tests {
     use std::collections::HashMap;
 
-    use super::escaped;
+    use super::{escaped, quoted};
+
+    #[test]
+    fn quotes_end_where_the_text_does() {
+        assert_eq!(quoted(b"007"), r#""007""#);
+        assert_eq!(quoted(b"a\"b "), r#""a\"b ""#);
+        assert_eq!(quoted(b"\\\n\xFF"), r#""\\\n\xFF""#);
+    }
 
     #[test]
     fn what_cannot_be_seen_is_escaped() {

@@ -1,7 +1,9 @@
 //! The files that paths name: a file itself, and every regular file in a folder.
 
+use std::fs::{self, Metadata};
 use std::io;
 use std::iter;
+use std::os::unix::fs::MetadataExt;
 use std::path::{Path, PathBuf};
 
 use walkdir::{DirEntry, WalkDir};
@@ -25,6 +27,28 @@ impl Listed {
     /// Whether it counts as a file: whatever is not passed over.
     pub fn is_counted(&self) -> bool {
         matches!(self, Listed::File(_) | Listed::Unread(..))
+    }
+}
+
+/// A file by its place on the disk, whatever it is called.
+#[derive(Clone, Copy, PartialEq, Eq)]
+pub struct Identity {
+    device: u64,
+    inode: u64,
+}
+
+impl Identity {
+    /// That of the file that metadata are of.
+    pub fn of(metadata: &Metadata) -> Identity {
+        Identity {
+            device: metadata.dev(),
+            inode: metadata.ino(),
+        }
+    }
+
+    /// Whether a path leads to this file.
+    pub fn is_at(self, path: &Path) -> bool {
+        fs::metadata(path).is_ok_and(|metadata| Identity::of(&metadata) == self)
     }
 }
 

@@ -1,4 +1,4 @@
-//! Reading a record from a file or from standard input.
+//! Reading a record or an index from a file or from standard input.
 
 use std::fmt;
 use std::fs::{File, Metadata};
@@ -17,6 +17,17 @@ pub struct Input {
     pub size: Size,
     /// The file system's metadata on it, if it is a file.
     pub metadata: Option<Metadata>,
+}
+
+impl Input {
+    /// All bytes of an input.
+    pub fn whole(bytes: Vec<u8>) -> Input {
+        Input {
+            size: Size::Exactly(bytes.len() as u64),
+            bytes,
+            metadata: None,
+        }
+    }
 }
 
 /// How long an input is.
@@ -69,6 +80,16 @@ pub fn read(path: &Path) -> io::Result<Input> {
     let metadata = Some(file.metadata()?).filter(Metadata::is_file);
     let input = read_from(file, metadata.as_ref().map(Metadata::len))?;
     Ok(Input { metadata, ..input })
+}
+
+/// Reads all of a file, or of standard input, however long it is.
+pub fn read_whole(path: &Path) -> io::Result<Input> {
+    let mut bytes = Vec::new();
+    match is_standard(path) {
+        true => io::stdin().lock().read_to_end(&mut bytes)?,
+        false => File::open(path)?.read_to_end(&mut bytes)?,
+    };
+    Ok(Input::whole(bytes))
 }
 
 /// Reads one byte more than the longest record has, at most: that is enough to see it refused. `known` is the length

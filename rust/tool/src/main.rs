@@ -1,24 +1,29 @@
 //! `tigmavresh`: opens, checks, shows, packs and writes SCP-ECG records.
 //!
-//! The tool reads files and writes text, and records. All that it says of a record is the proved library's answer, but for the
-//! lines that explain a refusal, which say so ([`explain`]), and for what a field's bytes are read as ([`reading`]); a record
-//! that it writes is the library's, byte for byte.
+//! The tool reads files and writes text, records and indexes. All that it says of them is the proved library's answer, but for
+//! the lines that explain a refusal, which say so ([`explain`]), and for what a field's bytes are read as ([`reading`]); a
+//! record or an index that it writes is the library's, byte for byte.
 
 mod cli;
 mod closed;
 mod commands;
+mod csv_form;
 mod escape;
 mod explain;
+mod filed;
 mod files;
+mod held;
 mod input;
 mod interrupt;
 mod job;
 mod json;
 mod making;
+mod many;
 mod names;
 mod ordered;
 mod output;
 mod paths;
+mod progress;
 mod reading;
 mod refused;
 mod rules;
@@ -70,7 +75,7 @@ fn tell(told: &clap::Error, output: &mut Output) -> Status {
 }
 
 /// Shows the help of the tool, or of a command: what --help shows.
-fn help(command: Option<String>, output: &mut Output) -> Status {
+fn help(command: Vec<String>, output: &mut Output) -> Status {
     let words = ["tigmavresh".to_string()].into_iter().chain(command);
     let words = words.chain(["--help".to_string()]);
     match Cli::try_parse_from(words) {
@@ -104,7 +109,7 @@ fn run(command: Command, output: &mut Output) -> Status {
                 json,
                 allow_empty,
             };
-            check::run(&paths, asked, jobs, output)
+            check::run(paths, asked, jobs, output)
         }
         Command::Report { file, json } => commands::report::run(&file, json, output),
         Command::Pack {
@@ -114,6 +119,7 @@ fn run(command: Command, output: &mut Output) -> Status {
             preserve,
         } => pack::run(&file, &out, pack::Asked { force, preserve }, output),
         Command::Write { job, out, force } => commands::write::run(&job, &out, force, output),
+        Command::Index { command } => commands::index::run(command, output),
         Command::Help { command } => help(command, output),
         Command::Man => commands::man::run(output),
         Command::Completions { shell } => commands::completions::run(shell, output),

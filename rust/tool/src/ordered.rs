@@ -1,11 +1,17 @@
 //! Work on many things side by side, with the answers as soon as they are ready and in the order of the things.
 
 use std::collections::BTreeMap;
+use std::num::NonZero;
 use std::sync::{Arc, Condvar, Mutex, MutexGuard, PoisonError};
 use std::thread;
 
-/// The most answers that wait for one that is not ready, so that they do not pile up behind it.
-const AHEAD: usize = 512;
+/// How many workers there are: those that were asked for, or as many as there are cores.
+pub fn workers(asked: Option<u16>) -> usize {
+    match asked {
+        Some(workers) => workers.into(),
+        None => thread::available_parallelism().map_or(1, NonZero::get),
+    }
+}
 
 /// The answers, in the order of the things: an iterator of all those that are ready, again and again until there are no more.
 pub struct Ordered<A>(Arc<Shared<A>>);
@@ -20,6 +26,8 @@ struct State<A> {
     /// Answers by their places that are ready and were not taken.
     ready: BTreeMap<usize, A>,
     taken: usize,
+    /// The most answers that wait for one that is not ready, so that they do not pile up behind it.
+    ahead: usize,
     working: usize,
     is_stopped: bool,
     /// Whether a worker ended by a panic: its answer is missing.
@@ -27,12 +35,14 @@ struct State<A> {
 }
 
 impl<A: Send + 'static> Ordered<A> {
-    /// Starts this number of workers, each with something of its own to work with.
+    /// Starts this number of workers, each with something of its own to work with. At most `ahead` answers wait for one that
+    /// is not ready.
     pub fn start<T, W>(
         workers: usize,
+        ahead: usize,
         things: impl Iterator<Item = T> + Send + 'static,
         own: fn() -> W,
-        work: fn(&mut W, T) -> A,
+        work: impl Fn(&mut W, T) -> A + Clone + Send + 'static,
     ) -> Ordered<A>
     where
         T: 'static,
@@ -42,6 +52,7 @@ impl<A: Send + 'static> Ordered<A> {
             state: Mutex::new(State {
                 ready: BTreeMap::new(),
                 taken: 0,
+                ahead,
                 working: workers,
                 is_stopped: false,
                 is_broken: false,
@@ -51,7 +62,7 @@ impl<A: Send + 'static> Ordered<A> {
         let things = Arc::new(Mutex::new(things.enumerate()));
         for _ in 0..workers {
             let worker = Worker(Arc::clone(&shared));
-            let things = Arc::clone(&things);
+            let (things, work) = (Arc::clone(&things), work.clone());
             thread::spawn(move || {
                 let mut own = own();
                 while let Some((place, thing)) = worker.next(&things) {
@@ -125,7 +136,8 @@ impl<A> Worker<A> {
     fn next<T>(&self, things: &Mutex<impl Iterator<Item = (usize, T)>>) -> Option<(usize, T)> {
         let mut things = things.lock().unwrap_or_else(PoisonError::into_inner);
         let (place, thing) = things.next()?;
-        let is_ahead = |state: &mut State<A>| place >= state.taken + AHEAD && !state.is_stopped;
+        let is_ahead =
+            |state: &mut State<A>| place >= state.taken + state.ahead && !state.is_stopped;
         let state = self.0.wait(is_ahead);
         (!state.is_stopped).then_some((place, thing))
     }
@@ -153,7 +165,9 @@ mod tests {
     use std::thread;
     use std::time::Duration;
 
-    use super::{Ordered, AHEAD};
+    use super::Ordered;
+
+    const AHEAD: usize = 512;
 
     /// Later things are ready first, and more of them than may wait.
     #[test]
@@ -163,7 +177,7 @@ mod tests {
                 thread::sleep(Duration::from_micros((thing * 7919) % 300));
                 thing
             };
-            let all = Ordered::start(workers, 0..3 * AHEAD as u64, || (), work);
+            let all = Ordered::start(workers, AHEAD, 0..3 * AHEAD as u64, || (), work);
             let answers: Vec<u64> = all.flatten().collect();
             assert_eq!(answers, (0..3 * AHEAD as u64).collect::<Vec<_>>());
         }
@@ -177,7 +191,7 @@ mod tests {
         let work = |_: &mut (), thing: Option<Receiver<()>>| {
             thing.map(|thing| thing.recv());
         };
-        let mut answers = Ordered::start(2, things, || (), work);
+        let mut answers = Ordered::start(2, AHEAD, things, || (), work);
         assert_eq!(answers.next().map(|some| some.len()), Some(1));
         let stop = answers.stop();
         thread::spawn(stop);
@@ -191,6 +205,6 @@ mod tests {
             700 => panic!("a fault of the work"),
             thing => thing,
         };
-        Ordered::start(3, 0..9000, || (), work).for_each(drop);
+        Ordered::start(3, AHEAD, 0..9000, || (), work).for_each(drop);
     }
 }

@@ -6,7 +6,7 @@ use crate::escape::{escaped, pieces};
 
 /// The tags of the dates of birth and of recording, and of the time of recording.
 const BIRTH_DATE: u8 = 5;
-const RECORDING_DATE: u8 = 25;
+pub const RECORDING_DATE: u8 = 25;
 const RECORDING_TIME: u8 = 26;
 
 /// The remarks on a date and on a time that there are none of.

@@ -14,18 +14,18 @@ use crate::verdict::{self, Word};
 const FOUND_SHOWN: usize = 8;
 
 /// The label of a rule's words, so that nobody takes them for what was found.
-pub const BROKEN: &str = "rule broken";
+const BROKEN: &str = "rule broken";
 
 /// Who decided, and who explains.
 pub const NOTE: &str = "The proved library decided; the explanation is not proved.";
 
-/// A refusal of a record or of one of its leads, for people: its number and why.
+/// A refusal of a record, of one of its leads or of an index, for people: its number and why.
 #[derive(Clone)]
 pub struct Refused {
     pub refusal: Refusal,
     /// Refused, or absent: a record that has not what is asked for may be sound.
     pub word: Word,
-    /// The things found, at least one.
+    /// The things found: at least one in a record.
     pub found: Vec<String>,
 }
 
@@ -55,6 +55,26 @@ impl Refused {
         self
     }
 
+    /// A refusal of a record that was to be added to an index.
+    pub fn of_adding(input: &Input, refusal: Refusal) -> Refused {
+        let foreign = explain::foreign(&input.bytes).into_iter();
+        let found = explain::found_in_adding(&Looked::at(input, 1), refusal);
+        Refused {
+            refusal,
+            word: Word::Refused,
+            found: foreign.chain(found).collect(),
+        }
+    }
+
+    /// A refusal of an index.
+    pub fn of_index(index: &[u8], refusal: Refusal) -> Refused {
+        Refused {
+            refusal,
+            word: Word::Refused,
+            found: explain::found_in_index(index),
+        }
+    }
+
     /// The line that starts what is shown of it.
     pub fn heading(&self, file: &Path, input: &Input) -> String {
         let (name, number, size) = (shown(file), self.refusal.number(), input.size);
@@ -65,6 +85,12 @@ impl Refused {
             ),
             _ => format!("{name}: refused, number {number} ({size})"),
         }
+    }
+
+    /// All of it in one line, after the one that starts it.
+    pub fn in_line(&self, heading: &str) -> String {
+        let (rule, found) = (self.refusal.words(), self.found.join("; "));
+        format!("{heading}; {BROKEN}: {rule}; found: {found}")
     }
 
     /// The lines below that: what the rule asks, and what was found.

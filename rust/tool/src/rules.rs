@@ -27,9 +27,12 @@ fn given_by(given: Given) -> &'static str {
         Given::OpeningAndWriting => "Given by every command that reads a record, and by write.",
         Given::Leads => "Given by leads, samples, check, report and pack.",
         Given::LeadsAndWriting => "Given by leads, samples, check, report, pack and write.",
+        Given::LeadsAndAdding => "Given by leads, samples, check, report, pack and index add.",
         Given::Streams => "Given by samples, check, report and pack, for each lead by itself.",
         Given::Lending => "Only programs that call the library see this.",
         Given::Writing => "Given by write.",
+        Given::Adding => "Given by index add.",
+        Given::Indexes => "Given by index add, index find, index list and index check.",
     }
 }
 

@@ -1,8 +1,8 @@
-//! Putting a record where it is asked for: whole or not at all.
+//! Putting a record or an index where it is asked for: whole or not at all.
 
 use std::fs::{self, File, Metadata, Permissions};
 use std::io::{self, ErrorKind, IsTerminal, Write};
-use std::os::unix::fs::{OpenOptionsExt, PermissionsExt};
+use std::os::unix::fs::{fchown, MetadataExt, OpenOptionsExt, PermissionsExt};
 use std::path::{Path, PathBuf};
 use std::process;
 use std::time::SystemTime;
@@ -19,13 +19,15 @@ const MODE: u32 = 0o777;
 /// The mode of a file until it has its own: its owner's alone.
 const PRIVATE: u32 = 0o600;
 
-/// A file's permissions and modification time.
+/// A file's permissions, modification time and owner.
 #[derive(Default)]
 pub struct Traits {
     /// Else those of the file that is replaced, or what the system gives a new file.
     permissions: Option<Permissions>,
     /// Else the time at which it is written.
     modified: Option<SystemTime>,
+    /// The user and the group, by their numbers; else those that the tool runs as.
+    owner: Option<(u32, u32)>,
 }
 
 impl Traits {
@@ -35,7 +37,17 @@ impl Traits {
         Ok(Traits {
             permissions: Some(Permissions::from_mode(mode)),
             modified: preserve.then(|| file.modified()).transpose()?,
+            owner: None,
         })
+    }
+
+    /// Those of a file that is changed: its permissions and owner stay.
+    pub fn kept(file: &Metadata) -> Traits {
+        Traits {
+            permissions: Some(Permissions::from_mode(file.mode() & MODE)),
+            modified: None,
+            owner: Some((file.uid(), file.gid())),
+        }
     }
 }
 
@@ -54,7 +66,7 @@ pub enum Target {
 impl Target {
     /// The place that a path names, if a record may be put there: standard output unless it is closed or a terminal, a name
     /// that is not taken or, with `force`, a file.
-    fn of(path: &Path, force: bool) -> io::Result<Target> {
+    pub fn of(path: &Path, force: bool) -> io::Result<Target> {
         if is_standard(path) {
             closed::fail_if_closed()?;
             return match io::stdout().is_terminal() {
@@ -134,7 +146,7 @@ impl Target {
             Target::File { path, replaced } => {
                 let permissions = traits.permissions.as_ref().or(replaced.as_ref());
                 let mut temporary = Temporary::beside(path, permissions)?;
-                temporary.fill(record, permissions, traits.modified)?;
+                temporary.fill(record, permissions, traits)?;
                 let back = fs::read(&temporary.path)?;
                 if back != record {
                     let words = "what is read back is not what was written";
@@ -145,6 +157,11 @@ impl Target {
             }
         }
     }
+}
+
+/// A mode that allows the group no more than all others: it is another group than the one that the mode was meant for.
+fn without_group(mode: u32) -> u32 {
+    (mode & !0o070) | (mode & 0o070 & ((mode & 0o007) << 3))
 }
 
 /// The folder that a path is in.
@@ -194,16 +211,26 @@ impl Temporary {
         &mut self,
         record: &[u8],
         permissions: Option<&Permissions>,
-        modified: Option<SystemTime>,
+        traits: &Traits,
     ) -> io::Result<()> {
         self.file.write_all(record)?;
+        let is_given = traits.owner.is_none_or(|owner| self.give(owner));
         if let Some(permissions) = permissions {
-            self.file.set_permissions(permissions.clone())?;
+            let mode = permissions.mode();
+            let mode = if is_given { mode } else { without_group(mode) };
+            self.file.set_permissions(Permissions::from_mode(mode))?;
         }
-        if let Some(modified) = modified {
+        if let Some(modified) = traits.modified {
             self.file.set_modified(modified)?;
         }
         self.file.sync_all()
+    }
+
+    /// Gives the file to a user and a group, as far as the system allows; whether it is the group's at least. Only root gives
+    /// a file to another user.
+    fn give(&self, (user, group): (u32, u32)) -> bool {
+        let give = |user| fchown(&self.file, user, Some(group)).is_ok();
+        give(Some(user)) || give(None)
     }
 
     /// Gives the file its name. Where no file is to be replaced, none is: a second name is given to it, which fails if that
@@ -234,6 +261,25 @@ impl Drop for Temporary {
     fn drop(&mut self) {
         if !self.renamed {
             let _ = fs::remove_file(&self.path);
+        }
+    }
+}
+
+#[cfg(test)]
+mod tests {
+    use super::without_group;
+
+    #[test]
+    fn another_group_gains_nothing() {
+        for (mode, told) in [
+            (0o640, 0o600),
+            (0o660, 0o600),
+            (0o644, 0o644),
+            (0o664, 0o644),
+            (0o606, 0o606),
+            (0o775, 0o755),
+        ] {
+            assert_eq!(without_group(mode), told, "{mode:o}");
         }
     }
 }

@@ -56,6 +56,19 @@ impl Tally {
         }
     }
 
+    /// What was passed over, at the end of a line that says how many files there were; nothing if nothing was.
+    pub fn passed_over(&self) -> String {
+        let passed_over = [(self.links, "link"), (self.special_files, "special file")];
+        let passed_over = passed_over.into_iter().filter(|(number, _)| *number > 0);
+        let passed_over: Vec<_> = passed_over
+            .map(|(number, name)| counted(number, name))
+            .collect();
+        match passed_over.is_empty() {
+            true => String::new(),
+            false => format!("; passed over: {}", passed_over.join(", ")),
+        }
+    }
+
     /// The numbers that files were refused with, as a table.
     pub fn table(&self) -> Vec<String> {
         let row = |(refusal, files): (&Refusal, &usize)| {
@@ -78,19 +91,11 @@ impl fmt::Display for Tally {
         if self.is_interrupted {
             write!(f, "interrupted, so far ")?;
         }
+        let passed_over = self.passed_over();
         write!(
             f,
-            "{files}: {accepted} accepted, {refused} refused, {not_read} not read"
-        )?;
-        let passed_over = [(self.links, "link"), (self.special_files, "special file")];
-        let passed_over = passed_over.into_iter().filter(|(number, _)| *number > 0);
-        let passed_over: Vec<_> = passed_over
-            .map(|(number, name)| counted(number, name))
-            .collect();
-        match passed_over.is_empty() {
-            true => Ok(()),
-            false => write!(f, "; passed over: {}", passed_over.join(", ")),
-        }
+            "{files}: {accepted} accepted, {refused} refused, {not_read} not read{passed_over}"
+        )
     }
 }
 

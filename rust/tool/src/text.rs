@@ -8,6 +8,16 @@ pub fn hex(bytes: &[u8]) -> String {
     pairs.join(" ")
 }
 
+/// The bytes of pairs of hex digits, with or without blanks between the pairs.
+pub fn unhex(text: &str) -> Result<Vec<u8>, String> {
+    let mut bytes = Vec::new();
+    for word in text.split_ascii_whitespace() {
+        let pairs = hex::decode(word);
+        bytes.extend(pairs.map_err(|_| format!("{word:?} is not pairs of hex digits"))?);
+    }
+    Ok(bytes)
+}
+
 /// Text with the thousands of its long numbers parted, as the rules have them: those of five digits and more.
 pub fn parted(text: &str) -> String {
     let is_mark = |letter: char| !letter.is_ascii_alphanumeric();

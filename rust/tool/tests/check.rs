@@ -3,17 +3,14 @@
 mod common;
 
 use std::fs;
-use std::io::{BufRead, BufReader, Read};
 use std::os::unix::fs::symlink;
-use std::process::{Child, Command, Stdio};
-use std::sync::mpsc::{self, Receiver};
-use std::thread;
-use std::time::Duration;
+use std::process::Command;
 
 use common::folder::Folder;
 use common::record::{put, seal};
+use common::waiting::Waiting;
 use common::{
-    run, run_by_shell, run_in, run_on_terminal, run_with_input, sample, samples, tool, Ran, NOTE,
+    run, run_by_shell, run_in, run_on_terminal, run_with_input, sample, samples, Ran, NOTE,
 };
 use serde_json::{json, Value};
 
@@ -384,65 +381,6 @@ fn a_closed_pipe_is_quiet() {
     }
 }
 
-/// So long a line is waited for that is to come at once.
-const PATIENCE: Duration = Duration::from_secs(60);
-
-/// The tool at work on files of which one, a pipe that nobody writes to, is never read to its end.
-struct Waiting {
-    tool: Child,
-    lines: Receiver<String>,
-}
-
-impl Waiting {
-    fn start(folder: &Folder, words: &[&str]) -> Waiting {
-        let pipe = Command::new("mkfifo").arg(folder.path("pipe")).status();
-        assert!(pipe.unwrap().success());
-        let mut command = tool();
-        command.current_dir(&folder.0).arg("check").args(words);
-        let mut tool = command
-            .stdout(Stdio::piped())
-            .stderr(Stdio::piped())
-            .spawn()
-            .unwrap();
-        let output = BufReader::new(tool.stdout.take().unwrap());
-        let (to, lines) = mpsc::channel();
-        thread::spawn(move || output.lines().try_for_each(|line| to.send(line.unwrap())));
-        Waiting { tool, lines }
-    }
-
-    /// The next line.
-    fn line(&self) -> String {
-        self.lines.recv_timeout(PATIENCE).expect("a line at once")
-    }
-
-    fn send(&self, signal: &str) {
-        let sent = Command::new("kill")
-            .args([signal, &self.tool.id().to_string()])
-            .status();
-        assert!(sent.unwrap().success());
-    }
-
-    /// The lines that are left, the exit status and what was complained of.
-    fn end(mut self) -> (Vec<String>, Option<i32>, String) {
-        let lines = std::iter::from_fn(|| self.lines.recv_timeout(PATIENCE).ok()).collect();
-        let mut complaints = String::new();
-        self.tool
-            .stderr
-            .take()
-            .unwrap()
-            .read_to_string(&mut complaints)
-            .unwrap();
-        (lines, self.tool.wait().unwrap().code(), complaints)
-    }
-}
-
-impl Drop for Waiting {
-    /// Nothing goes on after a test that failed.
-    fn drop(&mut self) {
-        let _ = self.tool.kill();
-    }
-}
-
 /// A line does not wait for the files after it, and an interruption ends with the summary of the files so far.
 #[test]
 fn an_interruption_shows_the_summary() {
@@ -452,7 +390,8 @@ fn an_interruption_shows_the_summary() {
             folder.file(name, &sample("7.scp"));
         }
         folder.file("b.scp", &sample("refused-2.scp"));
-        let words = [&["a.scp", "b.scp", "pipe", "z.scp", "--jobs", jobs], form].concat();
+        let files = ["check", "a.scp", "b.scp", "pipe", "z.scp"];
+        let words = [&files[..], &["--jobs", jobs], form].concat();
         let waiting = Waiting::start(&folder, &words);
         assert!(waiting.line().contains("a.scp"));
         assert!(waiting.line().contains("b.scp"));
@@ -480,7 +419,7 @@ fn an_interruption_shows_the_summary() {
 fn a_line_is_not_lost_by_a_signal() {
     let folder = Folder::new("killed");
     folder.file("a.scp", &sample("7.scp"));
-    let waiting = Waiting::start(&folder, &["a.scp", "pipe"]);
+    let waiting = Waiting::start(&folder, &["check", "a.scp", "pipe"]);
     assert_eq!(waiting.line(), "a.scp: accepted (194 bytes; no lead)");
     waiting.send("-KILL");
     assert_eq!(waiting.end().0, [""; 0]);

@@ -29,6 +29,17 @@ fn commands() -> Vec<String> {
         .collect()
 }
 
+/// The words of each command's help: the command, or the command and one of its own.
+fn helped() -> Vec<Vec<String>> {
+    let own = |command: String| match command.as_str() {
+        "index" => ["add", "find", "list", "check"]
+            .map(|own| vec![command.clone(), own.to_string()])
+            .into(),
+        _ => vec![vec![command]],
+    };
+    commands().into_iter().flat_map(own).collect()
+}
+
 /// Runs another program with this standard input, if it is there.
 fn other(program: &str, words: &[&str], input: &str) -> Option<Ran> {
     let mut command = Command::new(program);
@@ -127,16 +138,19 @@ fn the_manual_has_every_command() {
         ran.first_line()
     );
     let commands = commands();
-    assert_eq!(commands.len(), 11);
-    for command in &commands {
+    assert_eq!((commands.len(), helped().len()), (12, 15));
+    let all = helped().into_iter().map(|words| words.join(" "));
+    for command in all.chain(commands) {
         assert!(
             ran.out.contains(&format!("\n.SS \"{command}\"\n")),
             "{command}"
         );
     }
     // every option that a command's help has
-    for command in &commands {
-        let help = run(&[command, "--help"]).out;
+    for command in helped() {
+        let command = command.join(" ");
+        let words: Vec<&str> = command.split(' ').chain(["--help"]).collect();
+        let help = run(&words).out;
         let words = help
             .split_whitespace()
             .filter_map(|word| word.strip_prefix("--"));
@@ -161,9 +175,14 @@ fn the_manual_has_every_command() {
 #[test]
 fn the_help_of_a_command_is_its_own() {
     let (others, input) = ("stops the others.\n", "A FILE of - is standard input.");
-    for command in commands() {
-        let help = run(&[&command, "--help"]).out;
+    let own = ["add", "find", "list", "check"].map(|own| format!("index {own}"));
+    for command in commands().into_iter().chain(own) {
+        let words: Vec<&str> = command.split(' ').chain(["--help"]).collect();
+        let help = run(&words).out;
         let words = command.as_str();
+        let reads_index = ["index find", "index list", "index check"].contains(&words);
+        let index = "An INDEX of - is standard input.";
+        assert_eq!(help.contains(index), reads_index, "{help}");
         let many = ["open", "check"].contains(&words);
         assert_eq!(help.ends_with(others), many, "{help}");
         let reads = many || ["fields", "leads", "samples", "report"].contains(&words);
@@ -210,6 +229,8 @@ fn the_manual_can_be_read() {
             "tigmavresh --explain N\n",
             "(bash, elvish, fish, powershell, zsh)",
             "tigmavresh check [OPTIONS] PATH...",
+            "tigmavresh index add [OPTIONS] INDEX PATH...",
+            "tigmavresh index find [OPTIONS] INDEX IDENTIFIER",
             "--jobs N",
         ] {
             assert!(ran.out.contains(words), "{words}\n{}", ran.out);
@@ -243,6 +264,9 @@ fn bash_completes_commands_and_options() {
             &["--refused", "--json", "--jobs"][..],
         ),
         ("tigmavresh re", &["report"]),
+        ("tigmavresh in", &["index"]),
+        ("tigmavresh index ", &["add", "find", "list", "check"]),
+        ("tigmavresh index list --", &["--csv", "--excel", "--json"]),
         ("tigmavresh --ex", &["--explain"]),
     ] {
         let last = words.split(' ').count() - 1;

@@ -5,6 +5,7 @@ mod common;
 use std::ffi::OsStr;
 use std::fs;
 use std::os::unix::ffi::OsStrExt;
+use std::os::unix::fs::symlink;
 use std::path::Path;
 
 use common::folder::Folder;
@@ -116,6 +117,55 @@ fn rare_answers_keep_the_schema() {
     }
     fs::create_dir(folder.path("empty")).unwrap();
     assert!(told("check", &run_in(&folder, &["check", "--json", "empty"])).is_empty());
+}
+
+/// The commands on an index: what is added and refused, entries of any bytes, an index that is none, and no file.
+#[test]
+fn the_commands_on_an_index_keep_the_schema() {
+    let folder = Folder::new("index");
+    symlink(samples(), folder.path("samples")).unwrap();
+    let index = |words: &[&str]| {
+        let ran = run_in(&folder, &[&["index"], words, &["--json"]].concat());
+        let objects = objects(&ran);
+        for object in &objects {
+            schema().check(object).unwrap();
+        }
+        (ran.status, objects)
+    };
+    let (status, lines) = index(&["add", "audit.idx", "samples/", "none.scp"]);
+    assert_eq!((status, lines.len()), (2, 9 + 1 + 1));
+    let (summary, lines) = lines.split_last().unwrap();
+    let added = json!({"file": "audit.idx", "bytes": 124, "added": 15, "entries": 15});
+    assert_eq!(summary["index"], added);
+    assert_eq!(summary["summary"]["accepted"], 15);
+    assert!(lines.iter().all(|line| line["verdict"] != "accepted"));
+    let (status, entries) = index(&["list", "audit.idx"]);
+    assert_eq!((status, entries.len()), (0, 15));
+    let entry = json!({"identifier": "37", "text": "7", "date": "2024-03-14", "lead_count": 0});
+    assert_eq!(index(&["find", "audit.idx", "7"]), (0, vec![entry]));
+    assert_eq!(index(&["find", "audit.idx", "8"]), (1, vec![]));
+    let (status, checked) = index(&["check", "audit.idx"]);
+    assert_eq!((status, &checked[0]["entries"]), (0, &json!(15)));
+
+    folder.file("odd.idx", b"\x08\0\0\xFE\x40\xFF\x01");
+    let (status, entries) = index(&["list", "odd.idx"]);
+    let entry = json!({"identifier": "FF 01", "date": "0000-03-31", "lead_count": 32});
+    assert_eq!((status, entries), (0, vec![entry]));
+    folder.file("none.idx", b"\x08\0");
+    for words in [&["list", "none.idx"][..], &["find", "none.idx", "7"]] {
+        assert_eq!(index(words), index(&["check", "none.idx"]));
+    }
+    let (status, refused) = index(&["add", "none.idx", "samples/7.scp"]);
+    assert_eq!((status, &refused[0]["refusal"]), (1, &json!(26)));
+    assert_eq!(refused[0]["bytes"], 2);
+    for words in [
+        &["list", "no.idx"][..],
+        &["add", "no/no.idx", "samples/7.scp"],
+    ] {
+        let (status, unread) = index(words);
+        assert_eq!((status, unread.len()), (2, 1));
+        assert_eq!(unread[0]["verdict"], "unread");
+    }
 }
 
 /// The schema allows nothing else than what is shown.

@@ -205,6 +205,9 @@ fn an_answer_that_cannot_be_written_is_told() {
         &["check", ".", "--json"],
         &["report", "refused-1.scp"],
         &["report", "refused-1.scp", "--json"],
+        &["index", "list", "/dev/null", "--csv"],
+        &["index", "check", "/dev/null"],
+        &["index", "find", "/dev/null", "007"],
         &["--explain", "1"],
         &["man"],
         &["completions", "bash"],
@@ -283,7 +286,7 @@ fn a_place_is_a_number() {
 
 #[test]
 fn help_says_all_of_it() {
-    let commands = "open fields leads samples check report pack write help man completions";
+    let commands = "open fields leads samples check report pack write index help man completions";
     let ran = run(&["--help"]);
     assert_eq!((ran.status, ran.err.as_str()), (0, ""));
     let words = [
@@ -297,7 +300,8 @@ fn help_says_all_of_it() {
     for word in commands.split(' ').chain(words) {
         assert!(ran.out.contains(word), "{word}\n{}", ran.out);
     }
-    let words = "--json --json --json --lead --jobs --json --preserve --force COMMAND man SHELL";
+    let words =
+        "--json --json --json --lead --jobs --json --preserve --force find COMMAND man SHELL";
     for (command, word) in commands.split(' ').zip(words.split(' ')) {
         let ran = run(&[command, "--help"]);
         assert_eq!(ran.status, 0);
@@ -305,6 +309,10 @@ fn help_says_all_of_it() {
         assert!(told, "{}", ran.out);
         let asked = run(&["help", command]);
         assert_eq!((asked.status, asked.out), (0, ran.out), "{command}");
+    }
+    for own in ["add", "find", "list", "check"] {
+        let (asked, shown) = (run(&["help", "index", own]), run(&["index", own, "--help"]));
+        assert_eq!((asked.status, asked.out), (0, shown.out), "{own}");
     }
     assert_eq!(run(&["help"]).out, run(&["--help"]).out);
     let ran = run(&["help", "chekc"]);

@@ -1,15 +1,8 @@
--- A refused record gives its number; in an opened one the field found in Section 1 lies as far on as the section starts.
+-- A refused record gives its number; an opened one gives the field's place.
 use mathlib.Core.Path.{_≡_, sym, ap, _∙_}
-use native.Mathlib.Omega.{arith}
-use Prim.Native.Nat.{ℕ, _+_, _-_, _≤_}
-use mathlib.Core.List.{List}
-use lib.ListN.{length}
-use Rattle.header.specs.declared.Step.the-variants.{Found}
-use Rattle.header.specs.Fields.{fieldsFrom, withTag, occurring}
-use Rattle.pointers.specs.Pointers.{startOf, sectionOf}
-use Rattle.fields.specs.declared.Place.the-variants.{At, Refused}
-use Rattle.fields.specs.Lookup.{placeFound, fieldPlace}
-use Rattle.fields.proofs.Laws.{place-opened, place-refused, found-inside}
+use Rattle.fields.specs.declared.Place.the-variants.{Refused}
+use Rattle.fields.specs.Lookup.{fieldPlace}
+use Rattle.fields.proofs.Laws.{place-refused}
 use borrow.Author.Needs.{needs}
 use Rattle.fields.proofs.field_place.Statement.{statement}
 use Rattle.fields.proofs.field_place.Tie as tie
@@ -23,77 +16,11 @@ returns c =
     let e = c .before .refusal-of .ensures in
     ap Refused e ∙ sym (place-refused (c .before .before .before .args .rec .now) _ _ (λ h. c .if1 .taken (e ∙ h)))
 
-start-of-requires : tie.Need-start-of-requires
-start-of-requires c κs = search needs
-
-section-of-requires : tie.Need-section-of-requires
-section-of-requires c κs = search needs
-
-find-requires : tie.Need-find-requires
-find-requires c κs = search needs
-
-enum-known-f : tie.Need-enum-known-f
-enum-known-f c = search needs
-
--- in the arm `Found(f)`: the record's Section 1 has the field
-found : (c : tie.After-struct-known) → let a = c .before .before .before .before .before .before .before .before .before .before .args in
-    occurring (a .occurrence) (withTag (a .tag) (fieldsFrom (sectionOf (a .rec .now) 1) 16)) ≡ Found (c .before .before .f .given .0 .0)
-found c =
-    let a = c .before .before .before .before .before .before .before .before .before .before .args in
-    let section = sym (c .before .before .before .before .before .section-of .ensures) in
-    ap (λ (l : List ℕ). occurring (a .occurrence) (withTag (a .tag) (fieldsFrom l 16))) section
-    ∙ sym (c .before .before .before .before .find .ensures) ∙ c .before .before .f .given .1
-
--- so the field ends within the record
-within : (c : tie.After-struct-known) → let a = c .before .before .before .before .before .before .before .before .before .before .args in
-    let f = c .before .before .f .given .0 .0 in (f .start ≤ f .end) × (startOf (a .rec .now) 1 + f .end ≤ length (a .rec .now))
-within c =
-    let a = c .before .before .before .before .before .before .before .before .before .before .args in
-    found-inside (a .rec .now) (a .occurrence) (a .tag) (c .before .before .f .given .0 .0) (found c)
-
-add-t11 : tie.Need-add-t11
-add-t11 c = let w = within c in omega arith
-
-sub-t12 : tie.Need-sub-t12
-sub-t12 c = within (c .before) .0
-
-enum-told : tie.Need-enum-told
-enum-told c = search needs
+opened-place-requires : tie.Need-opened-place-requires
+opened-place-requires c κs = sym (c .before .refusal-of .ensures) ∙ c .if1 .left
 
 returns-2 : tie.Need-returns-2
-unfolding fieldPlace
-returns-2 c =
-    let a = c .before .before .before .before .before .before .before .before .before .before .before .args in
-    let f = c .before .before .before .f .given .0 .0 in
-    let e = c .before .before .before .before .before .before .before .before in
-    let opened = sym (e .before .refusal-of .ensures) ∙ e .if1 .left in
-    ap (λ (k : ℕ). At (k + f .start) (f .end - f .start)) (c .before .before .before .before .before .before .before .start-of .ensures .0)
-    ∙ sym (place-opened (a .rec .now) _ _ opened ∙ ap (placeFound (startOf (a .rec .now) 1)) (found (c .before)))
-
-returns-3 : tie.Need-returns-3
-unfolding fieldPlace
-returns-3 c =
-    let a = c .before .before .before .before .before .before .before .before .args in
-    let section = sym (c .before .before .before .section-of .ensures) in
-    let d = c .before .before .before .before .before in
-    let opened = sym (d .before .refusal-of .ensures) ∙ d .if1 .left in
-    let e =
-    ap (λ (l : List ℕ). occurring (a .occurrence) (withTag (a .tag) (fieldsFrom l 16))) section
-    ∙ sym (c .before .before .find .ensures) ∙ c .enum-told .given .1 in
-    sym (place-opened (a .rec .now) _ _ opened ∙ ap (placeFound (startOf (a .rec .now) 1)) e)
+returns-2 c = c .opened-place .ensures
 
 pub field-place-spec : {M : Type 1} → statement M
-field-place-spec =
-    tie.close
-    (tie.spec
-    refusal-of-requires
-    returns
-    start-of-requires
-    section-of-requires
-    find-requires
-    enum-known-f
-    add-t11
-    sub-t12
-    enum-told
-    returns-2
-    returns-3)
+field-place-spec = tie.close (tie.spec refusal-of-requires returns opened-place-requires returns-2)

@@ -35,7 +35,7 @@ fn page(mut tool: Command) -> String {
         page.line(".br");
     }
     for command in tool.get_subcommands_mut() {
-        page.usage(command);
+        page.usages(command);
     }
     page.heading("DESCRIPTION");
     page.text(description);
@@ -44,7 +44,7 @@ fn page(mut tool: Command) -> String {
     page.heading("COMMANDS");
     let shared = tool.get_after_help().map(ToString::to_string);
     for command in tool.get_subcommands() {
-        page.command(command, &shared);
+        page.commands("", command, &shared);
     }
     page.heading("EXIT STATUS");
     let words = shared.unwrap_or_default();
@@ -106,6 +106,16 @@ impl Page {
         self.line(&format!("{guard}{}", escaped(words)));
     }
 
+    /// How a command is called, or each of its own commands, if it has some.
+    fn usages(&mut self, command: &mut Command) {
+        match command.has_subcommands() {
+            true => command
+                .get_subcommands_mut()
+                .for_each(|one| self.usages(one)),
+            false => self.usage(command),
+        }
+    }
+
     /// How a command is called.
     fn usage(&mut self, command: &mut Command) {
         let usage = command.render_usage().to_string();
@@ -114,9 +124,18 @@ impl Page {
         self.line(".br");
     }
 
+    /// A command, and then its own commands, if it has some.
+    fn commands(&mut self, before: &str, command: &Command, shared: &Option<String>) {
+        let name = format!("{before}{}", command.get_name());
+        self.command(&name, command, shared);
+        for one in command.get_subcommands() {
+            self.commands(&format!("{name} "), one, shared);
+        }
+    }
+
     /// A command: what it does, its arguments, and what its help ends with, if all do not.
-    fn command(&mut self, command: &Command, shared: &Option<String>) {
-        self.macro_line("SS", &[command.get_name().to_string()]);
+    fn command(&mut self, name: &str, command: &Command, shared: &Option<String>) {
+        self.macro_line("SS", &[name.to_string()]);
         let about = command.get_about().map(ToString::to_string);
         let long = command.get_long_about().map(ToString::to_string);
         self.text(&long.or(about).unwrap_or_default());

@@ -4,6 +4,7 @@ pub mod check;
 pub mod completions;
 pub mod fields;
 mod given;
+pub mod index;
 pub mod leads;
 pub mod man;
 pub mod open;

@@ -1,11 +1,13 @@
 //! `tigmavresh samples FILE`: the samples of a record's leads, as text, CSV or JSON.
 
 use std::io::{self, Write};
+use std::iter;
 use std::path::Path;
 
 use scp::{Entry, Lead, Refusal};
 
 use super::given::read_or_complain;
+use crate::csv_form;
 use crate::input::Input;
 use crate::json;
 use crate::names;
@@ -217,18 +219,12 @@ fn as_csv(file: &Path, input: &Input, leads: &[Read], output: &mut Output) {
 }
 
 fn write_csv(leads: &[Read], to: &mut impl Write) -> io::Result<()> {
-    let mut table = csv::WriterBuilder::new()
-        .terminator(csv::Terminator::CRLF)
-        .from_writer(to);
-    let heads = leads.iter().map(column);
-    let head = std::iter::once("sample".to_string()).chain(heads);
-    table.write_record(head).map_err(reason)?;
-    for number in sample_numbers(leads) {
+    let head = iter::once("sample".to_string()).chain(leads.iter().map(column));
+    let rows = sample_numbers(leads).map(|number| {
         let cells = leads.iter().map(|lead| cell(lead, number));
-        let row = std::iter::once(number.to_string()).chain(cells);
-        table.write_record(row).map_err(reason)?;
-    }
-    table.flush()
+        iter::once(number.to_string()).chain(cells).collect()
+    });
+    csv_form::write(iter::once(head.collect::<Vec<String>>()).chain(rows), to)
 }
 
 /// A column's head: the lead's place and name, and what a sample of 1 stands for, or its refusal.
@@ -262,14 +258,6 @@ fn sample_numbers(leads: &[Read]) -> impl Iterator<Item = u32> {
         }
     }
     joined.into_iter().flat_map(|(first, last)| first..=last)
-}
-
-/// Why a row could not be written: as the system says it, so that a closed pipe is still known as one.
-fn reason(error: csv::Error) -> io::Error {
-    match error.into_kind() {
-        csv::ErrorKind::Io(error) => error,
-        other => io::Error::other(format!("{other:?}")),
-    }
 }
 
 // ---- JSON

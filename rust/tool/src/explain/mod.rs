@@ -1,18 +1,19 @@
-//! Explains what a refused record or job has that its rule does not allow, for a person to read.
+//! Explains what a refused record, job or index has that its rule does not allow, for a person to read.
 //!
-//! It explains an answer of the proved library and decides nothing. The findings are those of the independent
-//! implementation (`judge`), which is not proved; the words for it are made here. Bytes of a record count from 1, as a
+//! It explains an answer of the proved library and decides nothing. The findings in records and jobs are those of the
+//! independent implementation (`judge`), which is not proved; the words for it are made here. Bytes count from 1, as a
 //! pointer's index does.
 
 mod fields;
 mod frame;
+mod index;
 mod leads;
 mod numbers;
 mod streams;
 mod subject;
 mod tables;
 
-use judge::{Fault, Finding, Part, What};
+use judge::{row, Fault, Finding, Part, What};
 use scp::Refusal;
 
 use crate::input::{Input, Size};
@@ -67,6 +68,29 @@ pub fn found_in_job(making: &Making, refusal: Refusal) -> Vec<String> {
         samples: &making.samples,
     });
     explained(refusal, &found, Subject::Job(making))
+}
+
+/// The findings in a record that was refused when it was to be added to an index, a line for each; at least one. Of rule 8 an
+/// index asks what Section 3 must keep by itself.
+pub fn found_in_adding(looked: &Looked, refusal: Refusal) -> Vec<String> {
+    if refusal == Refusal::ROOM {
+        return vec![ROOM.to_string()];
+    }
+    let judged = judge::index_entry(looked.record).err().unwrap_or(0);
+    let mut lines: Vec<String> = disagreement(refusal.number(), judged).into_iter().collect();
+    if judged == row::DATE {
+        lines.extend(index::date(looked.record));
+        return lines;
+    }
+    let mut found = judge::findings(looked.record, judged);
+    found.retain(|finding| judged < row::SECTIONS_3_TO_6 || finding.section == Some(3));
+    lines.extend(self::lines(&found, Subject::Record(looked.size)));
+    lines
+}
+
+/// What there is in the bytes of an index that was refused, a line for each. It may be nothing.
+pub fn found_in_index(index: &[u8]) -> Vec<String> {
+    index::faults(index)
 }
 
 /// The findings in a record for a refusal's rule, asked alone; there may be none.

@@ -79,7 +79,7 @@ fn plain(finding: &Finding, what: What) -> String {
 }
 
 /// Says which bounds a number is outside of.
-fn bounds(expected: &RangeInclusive<i64>) -> String {
+pub fn bounds(expected: &RangeInclusive<i64>) -> String {
     match (*expected.start(), *expected.end()) {
         (least, most) if least == most => format!("not {least}"),
         (least, i64::MAX) => format!("under {least}"),

@@ -4,7 +4,7 @@ use judge::make::{aimed, noise, Rng};
 use judge::{row, CodeFault, Fault, Finding, FrameFault, Needs, Part, What, ZoneFault};
 use scp::Refusal;
 
-use super::{disagreement, explained, found, line, seen, Looked, Subject};
+use super::{disagreement, explained, found, found_in_adding, line, seen, Looked, Subject};
 use crate::input::Size;
 
 fn looked(record: &[u8], place: usize) -> Looked<'_> {
@@ -58,6 +58,31 @@ fn every_refusal_is_explained() {
     assert_eq!(never, [Refusal::ROOM]);
 }
 
+/// The same where records are added to an index.
+#[test]
+fn every_refusal_of_adding_is_explained() {
+    let mut rng = Rng::new(6);
+    let mut explained = Vec::new();
+    for turn in 0..1500 {
+        let record = match (turn % 15) as u8 {
+            0 => noise(&mut rng),
+            row => aimed(&mut rng, row),
+        };
+        let mut index = [0; scp::ENTRY_MAX];
+        let Err(refusal) = scp::index_add(&mut index, 0, &record) else {
+            continue;
+        };
+        let lines = found_in_adding(&looked(&record, 1), refusal);
+        assert!(!lines[0].contains("DISAGREEMENT"), "{lines:?}");
+        let is_date = lines[0].contains(" of tag 25 is ");
+        assert_eq!(is_date, refusal == Refusal::DATE, "{lines:?}");
+        explained.push(refusal.number());
+    }
+    explained.sort();
+    explained.dedup();
+    assert_eq!(explained, [1, 2, 3, 4, 5, 6, 8, 24]);
+}
+
 /// No bytes, and no number, upset it.
 #[test]
 fn any_bytes_may_be_looked_at() {
@@ -73,6 +98,7 @@ fn any_bytes_may_be_looked_at() {
         record.truncate(rng.below(2 * record.len() + 1));
         for place in [0, 1, 2, 33, usize::MAX] {
             found(&looked(&record, place), Refusal::LENGTH);
+            found_in_adding(&looked(&record, place), Refusal::LENGTH);
         }
         for refusal in Refusal::all() {
             seen(&looked(&record, 1), refusal);

@@ -16,7 +16,7 @@ use serde::{Deserialize, Deserializer};
 use crate::making::{Making, DEFAULT_TABLE};
 use crate::names;
 use crate::paths::{is_standard, shown};
-use crate::text::reason;
+use crate::text::{reason, unhex};
 use number::Number;
 use trace::Trace;
 
@@ -199,12 +199,7 @@ impl TryFrom<String> for Hex {
     type Error = String;
 
     fn try_from(text: String) -> Result<Hex, String> {
-        let mut bytes = Vec::new();
-        for word in text.split_ascii_whitespace() {
-            let pairs = hex::decode(word);
-            bytes.extend(pairs.map_err(|_| format!("{word:?} is not pairs of hex digits"))?);
-        }
-        Ok(Hex(bytes))
+        unhex(&text).map(Hex)
     }
 }
 

@@ -13,10 +13,8 @@ use crate::verdict::Word;
 /// A file: the verdict on it, and what it holds where that is shown.
 #[derive(Serialize)]
 pub struct About<T> {
-    file: String,
-    /// The name's bytes in hex, where they are no text.
-    #[serde(skip_serializing_if = "Option::is_none")]
-    file_bytes: Option<String>,
+    #[serde(flatten)]
+    name: Name,
     /// How long it is, where that is known.
     #[serde(skip_serializing_if = "Option::is_none")]
     bytes: Option<u64>,
@@ -35,6 +33,27 @@ pub struct About<T> {
     note: Option<&'static str>,
 }
 
+/// The name of a file.
+#[derive(Serialize)]
+pub struct Name {
+    file: String,
+    /// The name's bytes in hex, where they are no text.
+    #[serde(skip_serializing_if = "Option::is_none")]
+    file_bytes: Option<String>,
+}
+
+impl Name {
+    pub fn of(file: &Path) -> Name {
+        Name {
+            file: file.to_string_lossy().into_owned(),
+            file_bytes: match file.to_str() {
+                Some(_) => None,
+                None => Some(hex(file.as_os_str().as_encoded_bytes())),
+            },
+        }
+    }
+}
+
 /// The decision on a record or on a lead.
 #[derive(Clone, Serialize)]
 pub struct Decision {
@@ -43,8 +62,9 @@ pub struct Decision {
     /// The rule in words, where it is broken.
     #[serde(skip_serializing_if = "Option::is_none")]
     rule: Option<&'static str>,
-    #[serde(skip_serializing_if = "Vec::is_empty")]
-    found: Vec<String>,
+    /// What breaks it, where something is refused or absent.
+    #[serde(skip_serializing_if = "Option::is_none")]
+    found: Option<Vec<String>>,
 }
 
 impl Decision {
@@ -56,7 +76,7 @@ impl Decision {
                 verdict: refused.word,
                 refusal: Some(refused.refusal.number()),
                 rule: (refused.word == Word::Refused).then(|| refused.refusal.words()),
-                found: refused.found.clone(),
+                found: Some(refused.found.clone()),
             },
         }
     }
@@ -66,7 +86,7 @@ impl Decision {
             verdict,
             refusal: None,
             rule: None,
-            found: Vec::new(),
+            found: None,
         }
     }
 }
@@ -74,11 +94,7 @@ impl Decision {
 impl<T> About<T> {
     fn new(file: &Path, decision: Decision) -> About<T> {
         About {
-            file: file.to_string_lossy().into_owned(),
-            file_bytes: match file.to_str() {
-                Some(_) => None,
-                None => Some(hex(file.as_os_str().as_encoded_bytes())),
-            },
+            name: Name::of(file),
             bytes: None,
             decision,
             lead: None,

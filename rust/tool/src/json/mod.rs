@@ -2,6 +2,7 @@
 
 mod about;
 mod fields;
+mod index;
 mod leads;
 mod pointers;
 mod report;
@@ -11,6 +12,7 @@ use serde::Serialize;
 
 pub use about::{unread, About};
 pub use fields::{Field, Header};
+pub use index::{Extended, Filed, Indexed};
 pub use leads::{bits_in_hundredths, Counted, Lead, Rhythm};
 pub use pointers::{Pointer, Pointers};
 pub use report::{Report, Rule};

@@ -4,6 +4,7 @@ use std::collections::BTreeMap;
 
 use serde::Serialize;
 
+use super::index::Indexed;
 use crate::refused;
 use crate::tally::Tally;
 
@@ -11,6 +12,9 @@ use crate::tally::Tally;
 #[derive(Serialize)]
 pub struct Summary {
     summary: Counts,
+    /// The index that they were added to, if that is what was done.
+    #[serde(skip_serializing_if = "Option::is_none")]
+    index: Option<Indexed>,
     #[serde(skip_serializing_if = "Option::is_none")]
     note: Option<&'static str>,
 }
@@ -49,7 +53,14 @@ impl Summary {
                 },
                 by_number: tally.by_number().collect(),
             },
+            index: None,
             note: (tally.refused() > 0).then_some(refused::NOTE),
         }
+    }
+
+    /// The same with the index that they were added to.
+    pub fn with(mut self, index: Indexed) -> Summary {
+        self.index = Some(index);
+        self
     }
 }

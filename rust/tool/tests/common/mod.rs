@@ -5,6 +5,7 @@
 pub mod folder;
 pub mod record;
 pub mod schema;
+pub mod waiting;
 
 use std::env;
 use std::fs;

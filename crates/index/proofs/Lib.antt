@@ -1,0 +1,4 @@
+pub mod Heads
+pub mod Less
+pub mod Walk
+pub mod Found

@@ -1,0 +1,69 @@
+-- Where the bytes in use are no index, that is refused; else two walks find the part.
+use Prim.Native.Nat.{ℕ, _-_}
+use mathlib.Core.Path.{_≡_, sym, ap, _∙_}
+use mathlib.Core.Bool.{false}
+use mathlib.Core.List.{List}
+use native.Mathlib.Omega.{arith}
+use lib.ListN.{take}
+use Rattle.wire.proofs.Tests.{kept, broken}
+use Rattle.index.specs.Index.{entriesIn, indexRight, partOrNone, found, findPlace}
+use Rattle.index.proofs.Found.{walks-find, part-some, part-none}
+use borrow.Author.Needs.{needs}
+use Rattle.index.proofs.find_place.Statement.{statement}
+use Rattle.index.proofs.find_place.Tie as tie
+
+index-right-requires : tie.Need-index-right-requires
+index-right-requires c κs = search needs
+
+returns : tie.Need-returns
+unfolding findPlace
+returns c =
+    let a = c .before .before .before .before .args in
+    let none : indexRight (a .lent .now) (a .used) ≡ false = broken (c .before .index-right .ensures) (c .if1 .taken) in
+    rw none
+
+part-of-requires : tie.Need-part-of-requires
+part-of-requires c κs = search needs
+
+behind-smaller-requires : tie.Need-behind-smaller-requires
+behind-smaller-requires c κs = search needs
+
+behind-same-requires : tie.Need-behind-same-requires
+behind-same-requires c κs = search needs
+
+-- what the walks find is the part that is looked for
+walked : (c : tie.After-behind-same) → let a = c .before .before .before .before .before .before .before .args in
+    findPlace (a .lent .now) (a .used) (a .id .now) ≡ partOrNone (c .before .behind-smaller .result) (c .behind-same .result - c .before .behind-smaller .result)
+unfolding findPlace
+walked c =
+    let a = c .before .before .before .before .before .before .before .args in
+    let all : a .used - 0 ≡ a .used = omega arith in
+    let s = c .before .before .part-of .ensures ∙ ap (λ (n : ℕ). take n (a .lent .now)) all in
+    let id = a .id .now in
+    rw (kept (c .before .before .before .before .index-right .ensures) (c .before .before .before .if1 .left))
+    (ap (λ (l : List ℕ). found id (entriesIn l)) (sym s)
+    ∙ walks-find id (c .before .before .part-of .result .now) _ _ (c .before .behind-smaller .ensures) (c .behind-same .ensures))
+
+returns-2 : tie.Need-returns-2
+returns-2 c =
+    let none : c .before .behind-same .result - c .before .before .behind-smaller .result ≡ 0 = omega (arith, c .if2 .taken) in
+    sym (walked (c .before) ∙ part-none _ _ none)
+
+sub-t9 : tie.Need-sub-t9
+sub-t9 c = search needs
+
+returns-3 : tie.Need-returns-3
+returns-3 c = sym (walked (c .before) ∙ part-some _ _ (λ e. absurd (omega (arith, c .if2 .left, e))))
+
+pub find-place-spec : {M : Type 1} → statement M
+find-place-spec =
+    tie.close
+    (tie.spec
+    index-right-requires
+    returns
+    part-of-requires
+    behind-smaller-requires
+    behind-same-requires
+    returns-2
+    sub-t9
+    returns-3)

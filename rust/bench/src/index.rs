@@ -1,0 +1,134 @@
+//! The index: looking up an identifier, adding a record, and listing all entries, beside a plain loop.
+
+use std::hint::black_box;
+
+use compare::rhythm::DEFAULT_TABLE;
+use scp::ENTRY_MAX;
+
+use crate::measure::Table;
+use crate::plain::{self, Entry};
+use crate::reading::record_for;
+
+/// The entries that each patient has.
+const VISITS: usize = 2;
+/// How far apart patients' numbers are: some between them are missing.
+const APART: usize = 3;
+const LEADS: u8 = 12;
+const COUNT: usize = 500;
+
+/// All lines, in an index of this many entries.
+pub fn all(table: &mut Table, entries: usize) {
+    let index: Vec<u8> = (0..entries).flat_map(made).collect();
+    let (middle, last) = (entries / VISITS / 2, (entries - 1) / VISITS);
+    let first = format!("index of {} entries, find the first", grouped(entries));
+    for (name, asked) in [
+        (first.as_str(), number(0)),
+        ("  find one in the middle", number(middle)),
+        ("  find the last", number(last)),
+        ("  find one that is missing", missing(middle)),
+    ] {
+        find(table, name, &index, entries, asked.as_bytes());
+    }
+    for (name, added) in [
+        ("  add a record at the front", digits(0)),
+        ("  add one in the middle", missing(middle)),
+        ("  add one at the end", missing(last)),
+    ] {
+        add(table, name, &index, entries, added.as_bytes());
+    }
+    list(table, &index, entries);
+}
+
+/// A number with a comma before each three digits.
+fn grouped(number: usize) -> String {
+    let digits = number.to_string();
+    let groups = digits.as_bytes().rchunks(3).rev();
+    let groups: Vec<_> = groups.map(String::from_utf8_lossy).collect();
+    groups.join(",")
+}
+
+/// The identifier of a patient.
+fn number(patient: usize) -> String {
+    digits(APART * patient + 1)
+}
+
+/// An identifier that no patient has. It comes behind that of this patient.
+fn missing(patient: usize) -> String {
+    digits(APART * patient + 2)
+}
+
+fn digits(number: usize) -> String {
+    format!("{number:08}")
+}
+
+/// The bytes of the entry at a place of the index, from 0.
+fn made(place: usize) -> Vec<u8> {
+    let patient = place / VISITS;
+    let (month, day) = (1 + place % VISITS, 1 + patient % 28);
+    let identifier = number(patient);
+    let entry = Entry {
+        identifier: identifier.as_bytes(),
+        date: plain::date(2024, month as u8, day as u8),
+        leads: LEADS,
+    };
+    entry.bytes()
+}
+
+/// Looking up an identifier. Both sides judge the whole index.
+fn find(table: &mut Table, name: &str, index: &[u8], entries: usize, asked: &[u8]) {
+    let by_library = || scp::index_find(black_box(index), index.len(), asked);
+    let by_plain = || plain::index_find(black_box(index), asked);
+    let part = by_plain().expect("it is an index");
+    assert_eq!(by_library(), Ok(&index[part]));
+    table.line(
+        name,
+        (entries, "Mentries"),
+        || {
+            let _ = black_box(by_library());
+        },
+        || {
+            let _ = black_box(by_plain());
+        },
+    );
+}
+
+/// Adding a record, time after time. All entries have one size, so that the last one falls out of what is in use each time,
+/// and the rest is an index again.
+fn add(table: &mut Table, name: &str, index: &[u8], entries: usize, identifier: &[u8]) {
+    let record = record_for(identifier, LEADS.into(), COUNT, &DEFAULT_TABLE, 2);
+    let used = index.len();
+    let [mut library, mut plain] = [(); 2].map(|()| [index, &[0; ENTRY_MAX]].concat());
+    let answer = scp::index_add(&mut library, used, &record);
+    assert_eq!(answer.ok(), plain::index_add(&mut plain, used, &record));
+    assert!(library == plain);
+    let mut by_library = || scp::index_add(&mut library, used, black_box(&record));
+    let mut by_plain = || plain::index_add(&mut plain, used, black_box(&record));
+    table.line(
+        name,
+        (entries, "Mentries"),
+        || {
+            let _ = black_box(by_library());
+        },
+        || {
+            let _ = black_box(by_plain());
+        },
+    );
+}
+
+/// Listing all entries by steps: a call of the library for each.
+fn list(table: &mut Table, index: &[u8], entries: usize) {
+    let by_library = || scp::index_entries(black_box(index)).map(|entry| usize::from(entry.leads));
+    let by_plain = || plain::index_entries(black_box(index)).map(|entry| usize::from(entry.leads));
+    assert!(by_library().eq(by_plain()));
+    assert_eq!(by_library().count(), entries);
+    table.line(
+        "  list all entries by steps",
+        (entries, "Mentries"),
+        || {
+            black_box(by_library().sum::<usize>());
+        },
+        || {
+            black_box(by_plain().sum::<usize>());
+        },
+    );
+}

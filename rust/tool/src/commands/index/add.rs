@@ -1,0 +1,219 @@
+//! `tigmavresh index add INDEX PATH...`: records added to an index.
+
+use std::io;
+use std::path::{Path, PathBuf};
+
+use scp::{Refusal, ENTRY_MAX};
+
+use super::{complain, judged};
+use crate::filed::{how_many, Filed};
+use crate::held::Held;
+use crate::input::{self, Input};
+use crate::json;
+use crate::many::{self, Many};
+use crate::output::Output;
+use crate::paths::{is_standard, shown};
+use crate::refused::{self, Refused};
+use crate::status::Status;
+use crate::tally::Tally;
+use crate::text::parted;
+
+/// The most records that wait for one that is not read yet. All of them are in memory, and a record has up to 1 MiB.
+const AHEAD: usize = 64;
+
+/// Said of standard input as an index to add to.
+const NO_FILE: &str = "INDEX must be a file: it is read, and written anew";
+
+/// The options.
+#[derive(Clone, Copy)]
+pub struct Asked {
+    /// Show it as JSON.
+    pub json: bool,
+    /// Do not fail if no file is found.
+    pub allow_empty: bool,
+}
+
+/// An index that records are added to.
+struct Growing {
+    /// Room for the index, of which the front is in use.
+    room: Vec<u8>,
+    used: usize,
+}
+
+impl Growing {
+    /// Adds a record, if the library does not refuse it.
+    fn add(&mut self, record: &[u8]) -> Result<(), Refusal> {
+        self.room.resize(self.used + ENTRY_MAX, 0);
+        self.used = scp::index_add(&mut self.room, self.used, record)?;
+        Ok(())
+    }
+
+    fn bytes(&self) -> &[u8] {
+        &self.room[..self.used]
+    }
+}
+
+/// Adds the records of these paths to an index, which is then put in its place. Nobody else writes to it meanwhile.
+pub fn run(
+    index: &Path,
+    paths: Vec<PathBuf>,
+    asked: Asked,
+    jobs: Option<u16>,
+    output: &mut Output,
+) -> Status {
+    if is_standard(index) {
+        output.remark(&[NO_FILE.to_string()]);
+        return Status::NotDone;
+    }
+    let held = Held::at(index).and_then(|mut held| Ok((held.read()?, held)));
+    let (bytes, held) = match held {
+        Ok(held) => held,
+        Err(error) => {
+            complain(index, &error, asked.json, output);
+            return Status::NotDone;
+        }
+    };
+    if let Err(refused) = judged(&bytes) {
+        held.keep();
+        return refuse(index, Input::whole(bytes), &refused, asked, output);
+    }
+    let many = Many {
+        paths,
+        without: Some(held.identity()),
+        jobs,
+        ahead: AHEAD,
+        json: asked.json,
+    };
+    let (growing, tally) = grown(&bytes, many, asked, output);
+    let kept = keep(held, &growing, &tally, asked);
+    let now = match kept {
+        Ok(true) => growing.bytes(),
+        _ => &bytes[..],
+    };
+    conclude(index, now, &kept, &tally, asked, output)
+}
+
+/// An index with these records added to it.
+fn grown(index: &[u8], many: Many, asked: Asked, output: &mut Output) -> (Growing, Tally) {
+    let mut growing = Growing {
+        room: index.to_vec(),
+        used: index.len(),
+    };
+    let read = |_: &mut (), file: &Path| input::read(file);
+    let take = |file: &Path, input: Input, tally: &mut Tally, output: &mut Output| {
+        take(&mut growing, file, &input, asked, tally, output);
+    };
+    let tally = many.each(|| (), read, take, output);
+    (growing, tally)
+}
+
+/// Says that the index is refused, and that nothing is added to it.
+fn refuse(
+    index: &Path,
+    input: Input,
+    refused: &Refused,
+    asked: Asked,
+    output: &mut Output,
+) -> Status {
+    match asked.json {
+        true => {
+            let about = json::About::<json::Extended>::judged(index, input.size, Some(refused));
+            output.line(json::line(&about.noted()));
+        }
+        false => {
+            output.lines(refused.text(index, &input));
+            output.block();
+            output.line(format_args!("{}: nothing was added", shown(index)));
+        }
+    }
+    Status::Refused
+}
+
+/// Adds one record, or shows why it is refused.
+fn take(
+    growing: &mut Growing,
+    file: &Path,
+    input: &Input,
+    asked: Asked,
+    tally: &mut Tally,
+    output: &mut Output,
+) {
+    let Err(refusal) = growing.add(&input.bytes) else {
+        tally.accepted += 1;
+        return;
+    };
+    tally.refuse(refusal);
+    let refused = Refused::of_adding(input, refusal).in_short(input);
+    if asked.json {
+        let about = json::About::<json::Extended>::judged(file, input.size, Some(&refused));
+        return output.line(json::line(&about));
+    }
+    let heading = refused.heading(file, input);
+    output.line(refused.in_line(&heading));
+}
+
+/// Puts the index in its place, and says whether it did: not after an interruption. Where no file was found a new one is not
+/// made, unless that is allowed.
+fn keep(held: Held, growing: &Growing, tally: &Tally, asked: Asked) -> io::Result<bool> {
+    if tally.is_interrupted {
+        return Ok(false);
+    }
+    match tally.accepted {
+        0 if tally.files() == 0 && !asked.allow_empty => drop(held),
+        0 => held.keep(),
+        _ => held.put(growing.bytes(), |back| {
+            let again = scp::index_find(back, back.len(), &[]);
+            let words = |refusal| format!("it is refused when it is read back: {refusal}");
+            again.map(|_| ()).map_err(words)
+        })?,
+    }
+    Ok(true)
+}
+
+/// Shows how many records were added, refused with each number, and not read. The worst of them is the status.
+fn conclude(
+    index: &Path,
+    now: &[u8],
+    kept: &io::Result<bool>,
+    tally: &Tally,
+    asked: Asked,
+    output: &mut Output,
+) -> Status {
+    let is_kept = matches!(kept, Ok(true));
+    let entries = Filed::all(now).count();
+    match asked.json {
+        true => {
+            let added = if is_kept { tally.accepted } else { 0 };
+            let indexed = json::Indexed::new(index, now.len(), added, entries);
+            output.line(json::line(&json::Summary::new(tally).with(indexed)));
+        }
+        false => {
+            if tally.refused() > 0 {
+                refused::footnote(output);
+            }
+            output.block();
+            output.line(told(index, is_kept, entries, tally));
+            output.lines(tally.table());
+        }
+    }
+    if let Err(error) = kept {
+        output.complain(index, error);
+        return Status::NotDone;
+    }
+    many::status(tally, asked.allow_empty, output)
+}
+
+/// The closing line.
+fn told(index: &Path, is_kept: bool, entries: usize, tally: &Tally) -> String {
+    let (name, entries) = (shown(index), how_many(entries));
+    let (accepted, refused, not_read) = (tally.accepted, tally.refused(), tally.not_read);
+    let others = format!("{refused} refused, {not_read} not read");
+    let numbers = match (is_kept, tally.is_interrupted) {
+        (true, _) => format!("{accepted} added, {others}; {entries} now"),
+        (false, true) => format!(
+            "interrupted, and left as it was: {entries}; so far {accepted} accepted, {others}"
+        ),
+        (false, false) => format!("left as it was: {entries}; {accepted} accepted, {others}"),
+    };
+    format!("{name}: {}{}", parted(&numbers), tally.passed_over())
+}
