@@ -4,8 +4,9 @@ use Prim.Native.Nat.{ℕ, suc, _+_, _-_, _≤_}
 use mathlib.Core.Path.{_≡_, refl, sym, ap, _∙_}
 use mathlib.Core.Bool.{Bool, true, false, not, cond, and-eq-true-iff}
 use mathlib.Core.List.{List, [], _∷_, _++_, map, map-append, append-assoc, append-nil}
+use mathlib.Core.Logic.{_↔_}
 use native.Mathlib.Omega.{arith}
-use borrow.Author.Tests.{le-leb, eq-eqb, ne-eqb}
+use borrow.Author.Tests.{le-leb, eqb-true, eq-eqb, ne-eqb}
 use lib.Dec.{leb, ltb, eqb}
 use lib.ListN.{length, take, drop, length-append, length-drop, take-append-drop}
 use lib.Seq.{length-take-le, append-snoc, take-append-seam, take-at, drop-at}
@@ -20,19 +21,41 @@ use Rattle.index.specs.Order.{before, inOrder}
 use Rattle.index.specs.Index.{indexBytes, bytesIn, entriesIn, isIndex, indexRight, front, behind, smaller, has, partOrNone, found, findPlace}
 use Rattle.index.proofs.Found.{bytes-split}
 use Rattle.filing.specs.Filing.{section3Kept, entryOf, roomRight, addRefusal, addAnswer, placeFor, putIn, indexAfter}
-use Rattle.filing.proofs.Laws.{all-kept}
-use Rattle.arranged.specs.Arranged.{those}
-use Rattle.arranged.proofs.Parts.{split}
+use Rattle.filing.proofs.Laws.{index-used, all-kept}
+use Rattle.arranged.specs.Arranged.{those, Arranged}
+use Rattle.arranged.proofs.Parts.{split, every-those}
 use Rattle.arranged.proofs.Arranging.{nothing, put-in, one, rule-kept, those-arranged}
 use Rattle.arranged.proofs.LookedUp.{looked-up, only-those}
-use Rattle.afresh.specs.Afresh.{areBytes, filable, BuiltAfresh, AddedAll, done, next, Accepted, Stored, AllAndOnly, LookedUpIn}
-use Rattle.afresh.proofs.Bytes.{index-length, index-append, bytes-append, yearFits, entries-back, bytes-back}
+use Rattle.afresh.specs.Afresh.{areBytes, filable, yearFits, BuiltAfresh, EntriesInOrder, Grown, AddedAll, done, next, Accepted, Stored, AllAndOnly, LookedUpIn}
+use Rattle.afresh.proofs.Bytes.{index-length, index-append, bytes-append, entries-back, bytes-back, entries-right, years-fit}
 use Rattle.afresh.proofs.Filed.{filed-right, filed-year}
 
 -- a record that breaks no rule of its own is bytes
 filable-bytes : (r : List ℕ) → filable r ≡ true → areBytes r ≡ true
 unfolding filable
 filable-bytes r h = and-eq-true-iff (areBytes r) _ .0 h .0
+
+-- ---- an index is the bytes of entries that keep their rules, in order
+
+-- such bytes are an index
+index-of : (es : List Entry) → every entryRight es ≡ true → every yearFits es ≡ true → inOrder es ≡ true → isIndex (indexBytes es) ≡ true
+unfolding isIndex
+index-of es right years ordered =
+    rw (entries-back es right years, eq-eqb (bytesIn es) (length (indexBytes es)) (sym (index-length es))) ordered
+
+-- and no others are
+pub index-exactly : (s : List ℕ) → areBytes s ≡ true → (isIndex s ≡ true) ↔ EntriesInOrder s
+unfolding isIndex
+index-exactly s b = (there, λ (o : EntriesInOrder s). rw (o .bytes) (index-of (o .entries) (o .right) (o .years) (o .ordered)))
+  where
+    there : isIndex s ≡ true → EntriesInOrder s
+    there h = record {
+      entries = entriesIn s;
+      right = entries-right s;
+      years = years-fit s;
+      ordered = and-eq-true-iff (eqb (bytesIn (entriesIn s)) (length s)) _ .0 h .1;
+      bytes = sym (bytes-back s b h);
+    }
 
 -- ---- an index built afresh
 
@@ -41,21 +64,25 @@ module _ (rs : List (List ℕ)) (s : List ℕ) (b : BuiltAfresh rs s) where
   built-length : length s ≡ bytesIn (b .entries)
   built-length = ap length (b .bytes) ∙ index-length (b .entries)
 
-  -- its entries are read back from its bytes
-  pub built-entries : entriesIn s ≡ b .entries
-  built-entries =
-      let es = map entryOf rs in
-      let years : every yearFits es ≡ true =
-      every-map filable yearFits entryOf (λ r h. filed-year r (filable-bytes r h)) rs (b .filed) in
-      let right = every-map filable entryRight entryOf filed-right rs (b .filed) in
-      ap entriesIn (b .bytes)
-      ∙ entries-back (b .entries) (rule-kept entryRight es (b .entries) (b .arranged) right)
-      (rule-kept yearFits es (b .entries) (b .arranged) years)
+  -- its entries keep their rules
+  built-kept : every entryRight (b .entries) ≡ true
+  built-kept = rule-kept entryRight (map entryOf rs) (b .entries) (b .arranged) (every-map filable entryRight entryOf filed-right rs (b .filed))
+
+  built-years : every yearFits (b .entries) ≡ true
+  built-years =
+      rule-kept yearFits (map entryOf rs) (b .entries) (b .arranged)
+      (every-map filable yearFits entryOf (λ r h. filed-year r (filable-bytes r h)) rs (b .filed))
+
+  -- they are read back from its bytes
+  built-entries : entriesIn s ≡ b .entries
+  built-entries = ap entriesIn (b .bytes) ∙ entries-back (b .entries) built-kept built-years
+
+  pub read-back : Arranged (map entryOf rs) (entriesIn s)
+  read-back = rw built-entries (b .arranged)
 
   -- it is an index
   pub built-index : isIndex s ≡ true
-  unfolding isIndex
-  built-index = rw (built-entries, eq-eqb (bytesIn (b .entries)) (length s) (sym built-length)) (b .arranged .ordered)
+  built-index = rw (b .bytes) (index-of (b .entries) built-kept built-years (b .arranged .ordered))
 
 -- so the bytes in use are right where they are one
 built-right : (rs : List (List ℕ)) (lent : List ℕ) (used : ℕ) → used ≤ length lent → BuiltAfresh rs (take used lent)
@@ -178,6 +205,38 @@ adding rs lent used r fits b bytes ok =
     let long : length (indexBytes (placed e es)) ≡ used + entrySize e = index-length (placed e es) ∙ placed-size e es ∙ rw size in
     rw (used-then lent used r ok)
     (stored (rs ++ (r ∷ [])) lent (indexAfter lent used r) (indexBytes (placed e es)) (used + entrySize e) now after long (f .1))
+
+-- adding a record to any index gives the index of its entry and those that were there, arranged
+pub adding-any : (lent : List ℕ) (used : ℕ) (r : List ℕ) → areBytes lent ≡ true → areBytes r ≡ true → addAnswer lent used r .refusal ≡ 0
+    → Grown lent used (entryOf r) (indexAfter lent used r) (addAnswer lent used r .used)
+unfolding addAnswer indexRight isIndex
+adding-any lent used r bytes own ok =
+    let s = take used lent in
+    let es = entriesIn s in
+    let e = entryOf r in
+    let k = all-kept lent used r ok in
+    let f = accepted-filable lent used r ok own in
+    let fits = index-used lent used (k .index) in
+    let i = and-eq-true-iff (leb used (length lent)) _ .0 (k .index) .1 in
+    let parts = and-eq-true-iff (eqb (bytesIn es) (length s)) _ .0 i in
+    let size : bytesIn es ≡ used = eqb-true (bytesIn es) (length s) (parts .0) ∙ length-take-le used lent fits in
+    let whole : s ≡ indexBytes es = sym (bytes-back s (every-cut (λ b. ltb b 256) used lent bytes .0) i) in
+    let arranged = put-in es es e (record { ordered = parts .1; each = λ x. refl }) in
+    let right = rule-kept entryRight (es ++ (e ∷ [])) (placed e es) arranged (every-more entryRight es e (entries-right s) (filed-right r (f .0))) in
+    let years = rule-kept yearFits (es ++ (e ∷ [])) (placed e es) arranged (every-more yearFits es e (years-fit s) (filed-year r own)) in
+    let end = used + entrySize e in
+    let long : length (indexBytes (placed e es)) ≡ end = index-length (placed e es) ∙ placed-size e es ∙ rw size in
+    let after : indexAfter lent used r ≡ indexBytes (placed e es) ++ drop end lent =
+    after-then lent used r ok ∙ put-bytes lent used es e whole size in
+    let now : take end (indexAfter lent used r) ≡ indexBytes (placed e es) =
+    ap (take end) after ∙ take-at (indexBytes (placed e es)) (drop end lent) end long in
+    let same : length (indexAfter lent used r) ≡ length lent = ap length after ∙ rw (length-append, length-drop) (omega (arith, f .1)) in
+    rw (used-then lent used r ok) (record {
+      right = rw (now, le-leb end (length (indexAfter lent used r)) (omega (arith, f .1))) (index-of (placed e es) right years (arranged .ordered));
+      arranged = rw (now, entries-back (placed e es) right years) arranged;
+      rest = ap (drop end) after ∙ drop-at (indexBytes (placed e es)) (drop end lent) end long;
+      size = same;
+    })
 
 -- ---- adding records one after another
 
@@ -315,9 +374,13 @@ built-look-up rs lent id used fits b =
     find-found lent id used (built-right rs lent used fits b) ∙ ap (found id) (built-entries rs (take used lent) b) in
     let whole : lent ≡ indexBytes es ++ drop used lent =
     sym (take-append-drop used lent) ∙ ap (λ (l : List ℕ). l ++ drop used lent) (b .bytes) in
+    let bytes : partBytes lent (findPlace lent used id) ≡ indexBytes (those (has id) es) =
+    ap (partBytes lent) place ∙ found-shown id es lent (drop used lent) whole ∙ ap indexBytes (only-those id es (b .arranged .ordered)) in
     record {
       entries = those (has id) es;
       arranged = those-arranged id (map entryOf rs) es (b .arranged);
-      bytes = ap (partBytes lent) place ∙ found-shown id es lent (drop used lent) whole
-          ∙ ap indexBytes (only-those id es (b .arranged .ordered));
+      bytes = bytes;
+      read = ap entriesIn bytes
+          ∙ entries-back (those (has id) es) (every-those entryRight (has id) es (built-kept rs (take used lent) b))
+          (every-those yearFits (has id) es (built-years rs (take used lent) b));
     }

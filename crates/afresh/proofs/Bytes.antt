@@ -4,7 +4,7 @@ use mathlib.Core.Path.{_≡_, refl, sym, ap, _∙_}
 use mathlib.Core.Bool.{Bool, true, false, not, _&&_, cond, and-eq-true-iff}
 use mathlib.Core.List.{List, [], _∷_, _++_, append-assoc, append-nil}
 use native.Mathlib.Omega.{arith}
-use borrow.Author.Tests.{leb-true, le-leb, eqb-true, ltb-true}
+use borrow.Author.Tests.{leb-true, le-leb, eqb-true, ltb-true, lt-ltb}
 use lib.Dec.{leb, eqb, ltb}
 use lib.ListN.{length, take, drop, length-append, length-take, length-drop, take-append-drop}
 use lib.Seq.{take-at, drop-at, take-all, take-length, take-add, drop-drop}
@@ -16,9 +16,9 @@ use Rattle.packing.specs.Packing.{packed}
 use Rattle.packing.proofs.Laws.{Bytes, bytes-take, packed-read, packed-whole}
 use Rattle.index.specs.Entry.{Entry, headBits, entryBytes, headSize, entrySize, headNumber, entryIn, zeroBit, dateRight, entryRight, isEntry}
 use Rattle.index.specs.Index.{indexBytes, bytesIn, entriesFrom, entriesIn, isIndex}
-use Rattle.index.proofs.Heads.{head-length, head-bits, identifier-length, entry-cut, entry-fits}
+use Rattle.index.proofs.Heads.{head-length, head-bits, head-small, identifier-length, entry-cut, entry-fits}
 use Rattle.index.proofs.Walk.{entries-step}
-use Rattle.afresh.specs.Afresh.{areBytes}
+use Rattle.afresh.specs.Afresh.{areBytes, yearFits}
 
 -- an entry has as many bytes as its size says
 pub entry-length : (e : Entry) → length (entryBytes e) ≡ entrySize e
@@ -134,10 +134,6 @@ module _ (e : Entry) (rest : List ℕ) (h : entryRight e ≡ true) (y : e .year 
 
 -- ---- entries from their bytes
 
--- the year has room in its 16 bits
-abbrev pub yearFits : Entry → Bool
-yearFits e = ltb (e .year) 65536
-
 -- entries that keep their rules are read back
 pub entries-back : (es : List Entry) → every entryRight es ≡ true → every yearFits es ≡ true → entriesIn (indexBytes es) ≡ es
 unfolding indexBytes
@@ -250,3 +246,33 @@ bytes-back s b h =
     let n = bytesIn (entriesFrom (length s) s) in
     let whole = eqb-true n (length s) (and-eq-true-iff (eqb n (length s)) _ .0 h .0) in
     back-from (length s) s b ∙ rw whole (take-length s)
+
+-- ---- the rules of the entries that bytes hold
+
+-- the entries of bytes keep a rule that each at the front of bytes keeps
+entries-keep : (rule : Entry → Bool) → ((s : List ℕ) → isEntry s ≡ true → rule (entryIn s) ≡ true) → (n : ℕ) (s : List ℕ)
+    → every rule (entriesFrom n s) ≡ true
+unfolding entriesFrom every
+entries-keep rule front zero s = refl
+entries-keep rule front (suc n) s = go (isEntry s) refl (entries-keep rule front n (drop (entrySize (entryIn s)) s))
+  where
+    go : (t : Bool) → isEntry s ≡ t → every rule (entriesFrom n (drop (entrySize (entryIn s)) s)) ≡ true
+        → every rule (cond t (entryIn s ∷ entriesFrom n (drop (entrySize (entryIn s)) s)) []) ≡ true
+    go false e later = refl
+    go true e later = rw (front s e) later
+
+-- the rules of an entry
+pub entries-right : (s : List ℕ) → every entryRight (entriesIn s) ≡ true
+unfolding entriesIn isEntry
+entries-right s =
+    entries-keep entryRight
+    (λ t h. and-eq-true-iff (eqb (zeroBit t) 0) _ .0 (and-eq-true-iff (leb (headSize + headNumber t 0 6) (length t)) _ .0 h .1) .1)
+    (length s) s
+
+-- and that its year has room
+pub years-fit : (s : List ℕ) → every yearFits (entriesIn s) ≡ true
+unfolding entriesIn entryIn
+years-fit s =
+    entries-keep yearFits
+    (λ t h. lt-ltb (headNumber t 6 16) 65536 (head-small t 6 16 (omega (arith, entry-fits t h)) (omega arith)))
+    (length s) s

@@ -1,25 +1,27 @@
 -- The entry that a record gives keeps the rules of an entry. Assumes nothing.
-use Prim.Native.Nat.{ℕ, _+_, _-_}
+use Prim.Native.Nat.{ℕ, _+_, _-_, _*_, _/_, _%_, _<_}
 use mathlib.Core.Path.{_≡_, refl}
 use mathlib.Core.Bool.{Bool, true, false, not, _||_, cond, and-eq-true-iff}
-use mathlib.Core.List.{List}
+use mathlib.Core.List.{List, [], _∷_, _++_}
+use native.Mathlib.Nat.{mod-eq-of-lt}
 use native.Mathlib.Omega.{arith}
 use borrow.Author.Tests.{le-leb, lt-ltb}
 use lib.Dec.{leb, ltb}
 use lib.ListN.{length, drop}
 use Rattle.wire.specs.Bounds.{mostLeads}
-use Rattle.wire.specs.Numbers.{numberAt}
+use Rattle.wire.specs.Numbers.{byteAt, numberAt, bytesOf}
 use Rattle.wire.proofs.Every.{every-cut}
 use Rattle.pointers.specs.Pointers.{present, sectionOf}
 use Rattle.record.specs.Opening.{opens}
 use Rattle.fields.specs.Lookup.{partStart, partSize, fieldPlace}
-use Rattle.fields.specs.Recording.{fieldOf, identifierOf, yearOf}
-use Rattle.fields.proofs.Recording.{identified}
+use Rattle.fields.specs.Recording.{fieldOf, identifierOf, yearOf, monthOf, dayOf}
+use Rattle.fields.proofs.Recording.{date-size, identified}
+use Rattle.packing.proofs.Laws.{Bytes}
 use Rattle.entries.specs.Section3.{leadCount, section3Right}
 use Rattle.index.specs.Entry.{entryRight}
 use Rattle.filing.specs.Filing.{section3Kept, leadsOf, entryOf, dateKept}
-use Rattle.afresh.specs.Afresh.{filable, areBytes}
-use Rattle.afresh.proofs.Bytes.{yearFits, byte-each}
+use Rattle.afresh.specs.Afresh.{filable, areBytes, yearFits}
+use Rattle.afresh.proofs.Bytes.{byte-each}
 
 -- there are up to 32 leads
 leads-most : (r : List ℕ) → section3Kept r ≡ true → leb (leadsOf r) mostLeads ≡ true
@@ -47,12 +49,34 @@ filed-right r h =
       leads-most r (b .0),
     )
 
--- the year has two bytes, so it has room in the entry's 16 bits
-pub filed-year : (r : List ℕ) → areBytes r ≡ true → yearFits (entryOf r) ≡ true
-unfolding entryOf fieldOf numberAt
-filed-year r h =
+-- the bytes of the date are bytes
+field-bytes : (r : List ℕ) → areBytes r ≡ true → Bytes (fieldOf r 25)
+unfolding fieldOf
+field-bytes r h =
     let start = partStart (fieldPlace r 25 1) in
     let size = start + partSize (fieldPlace r 25 1) - start in
-    let inside = every-cut (λ b. ltb b 256) size (drop start r) (every-cut (λ b. ltb b 256) start r h .1) .0 in
-    let byte = byte-each (fieldOf r 25) inside in
-    lt-ltb (yearOf r) 65536 (omega (arith, byte 0, byte 1))
+    byte-each (fieldOf r 25) (every-cut (λ b. ltb b 256) size (drop start r) (every-cut (λ b. ltb b 256) start r h .1) .0)
+
+-- the year has two of them, so it has room in the entry's 16 bits
+pub filed-year : (r : List ℕ) → areBytes r ≡ true → yearFits (entryOf r) ≡ true
+unfolding entryOf numberAt
+filed-year r h = let byte = field-bytes r h in lt-ltb (yearOf r) 65536 (omega (arith, byte 0, byte 1))
+
+-- four bytes are a number of two and two more
+four-bytes : (d : List ℕ) → length d ≡ 4 → byteAt d 0 < 256 → byteAt d 1 < 256 → d ≡ bytesOf 2 (numberAt 2 d 0) ++ (byteAt d 2 ∷ byteAt d 3 ∷ [])
+unfolding numberAt bytesOf
+four-bytes [] e h k = absurd (omega arith)
+four-bytes (a ∷ []) e h k = absurd (omega arith)
+four-bytes (a ∷ b ∷ []) e h k = absurd (omega arith)
+four-bytes (a ∷ b ∷ c ∷ []) e h k = absurd (omega arith)
+four-bytes (a ∷ b ∷ c ∷ d ∷ []) e h k =
+    let low : (a + (b + 0 * 256) * 256) % 256 ≡ a = omega arith in
+    let above : (a + (b + 0 * 256) * 256) / 256 ≡ b = omega arith in
+    let high : (a + (b + 0 * 256) * 256) / 256 % 256 ≡ b = rw above (mod-eq-of-lt k) in
+    rw (low, high)
+four-bytes (a ∷ b ∷ c ∷ d ∷ f ∷ l) e h k = absurd (omega arith)
+
+-- the date that is filed is the one that field lookup shows
+pub date-shown : (r : List ℕ) → areBytes r ≡ true → opens r ≡ true
+    → fieldOf r 25 ≡ bytesOf 2 (yearOf r) ++ (monthOf r ∷ dayOf r ∷ [])
+date-shown r h o = let byte = field-bytes r h in four-bytes (fieldOf r 25) (date-size r o) (byte 0) (byte 1)

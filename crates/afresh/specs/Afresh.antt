@@ -9,8 +9,9 @@ use Rattle.wire.specs.RuleWords.{every}
 use Rattle.record.specs.Opening.{opens}
 use Rattle.fields.specs.declared.Place.{Place}
 use Rattle.fields.specs.Lookup.{partBytes}
-use Rattle.index.specs.Entry.{Entry}
-use Rattle.index.specs.Index.{indexBytes, bytesIn, entriesIn, has, partOrNone}
+use Rattle.index.specs.Entry.{Entry, entryRight}
+use Rattle.index.specs.Order.{inOrder}
+use Rattle.index.specs.Index.{indexBytes, bytesIn, entriesIn, indexRight, has, partOrNone}
 use Rattle.filing.specs.Filing.{section3Kept, entryOf, dateKept, addAnswer, indexAfter}
 use Rattle.arranged.specs.Arranged.{those, Arranged}
 
@@ -18,7 +19,7 @@ use Rattle.arranged.specs.Arranged.{those, Arranged}
 abbrev pub areBytes : List ℕ → Bool
 areBytes s = every (λ b. ltb b 256) s
 
--- the bytes of a record that keeps all its own rules: rows 1 to 6, 8 for Section 3, and 24
+-- the bytes of a record that keeps the rules that adding asks of it: rows 1 to 6, 8 for Section 3, and 24
 unfoldable pub filable : List ℕ → Bool
 filable r = areBytes r && (opens r && (section3Kept r && dateKept r))
 
@@ -28,6 +29,24 @@ pub record BuiltAfresh (rs : List (List ℕ)) (s : List ℕ) : Type 0 where
   pub entries : List Entry
   pub arranged : Arranged (map entryOf rs) entries
   pub bytes : s ≡ indexBytes entries
+
+-- the bytes of entries that keep their rules, in order; a year has room in its 16 bits
+abbrev pub yearFits : Entry → Bool
+yearFits e = ltb (e .year) 65536
+
+pub record EntriesInOrder (s : List ℕ) : Type 0 where
+  pub entries : List Entry
+  pub right : every entryRight entries ≡ true
+  pub years : every yearFits entries ≡ true
+  pub ordered : inOrder entries ≡ true
+  pub bytes : s ≡ indexBytes entries
+
+-- a lent index, whoever made it, after an entry was added: an index of the entries that it had and this one, arranged; behind it what was lent
+pub record Grown (lent : List ℕ) (used : ℕ) (e : Entry) (after : List ℕ) (end : ℕ) : Type 0 where
+  pub right : indexRight after end ≡ true
+  pub arranged : Arranged (entriesIn (take used lent) ++ (e ∷ [])) (entriesIn (take end after))
+  pub rest : drop end after ≡ drop end lent
+  pub size : length after ≡ length lent
 
 -- records are added one after another, and each is accepted: the lent index and how many bytes of it are in use, before and after
 pub data AddedAll : List ℕ → ℕ → List (List ℕ) → List ℕ → ℕ → Type 0 where
@@ -66,3 +85,4 @@ pub record LookedUpIn (rs : List (List ℕ)) (id s : List ℕ) : Type 0 where
   pub entries : List Entry
   pub arranged : Arranged (those (has id) (map entryOf rs)) entries
   pub bytes : s ≡ indexBytes entries
+  pub read : entriesIn s ≡ entries

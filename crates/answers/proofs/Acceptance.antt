@@ -39,7 +39,9 @@ use Rattle.trip.proofs.Compose.{meant-right, given-right}
 use Rattle.trip.proofs.Written.{written-back}
 use Rattle.index.specs.Entry.{entrySize, entryIn, isEntry, shownAt, noneAt, entryAt}
 use Rattle.index.specs.Index.{entriesIn}
-use Rattle.index.proofs.Walk.{entries-step}
+use Rattle.index.specs.Entry as IE
+use Rattle.index.proofs.Heads.{entry-fits}
+use Rattle.index.proofs.Walk.{entries-step, seen-there, shown-there}
 use Rattle.filing.specs.Filing as F
 use Rattle.answers.specs.Demands.{AllKept, rowsAdded, rowsOpened, rowsLead, Demand2}
 use Rattle.answers.proofs.Laws.{none-broken}
@@ -88,10 +90,14 @@ added lent used r kept = rw (accepted lent used r kept) (refl, refl)
 listed : (s : List ℕ) (at : ℕ) → isEntry (drop at s) ≡ true
     → (entryAt s at ≡ shownAt at (entryIn (drop at s)))
     × (entriesIn (drop at s) ≡ entryIn (drop at s) ∷ entriesIn (drop (entryAt s at .next) s))
+    × (part s (entryAt s at .start) (entryAt s at .next) ≡ entryIn (drop at s) .identifier)
+    × (entryAt s at .next ≤ length s)
 unfolding entryAt
 listed s at h =
     let t = drop at s in
-    (rw h, entries-step t ∙ rw (h, drop-drop (entrySize (entryIn t)) at s))
+    let w = shown-there s at h in
+    let own = seen-there s at (entry-fits t h) in
+    (rw h, entries-step t ∙ rw (h, drop-drop (entrySize (entryIn t)) at s), rw h (ap (λ (e : IE.Entry). e .identifier) own), rw h (w .within))
 
 listed-end : (s : List ℕ) (at : ℕ) → isEntry (drop at s) ≡ false → (entryAt s at ≡ noneAt at) × (entriesIn (drop at s) ≡ [])
 unfolding entryAt

@@ -16,7 +16,7 @@ use Rattle.wire.proofs.Places.{Stands, stands-cut}
 use Rattle.header.specs.declared.Field.{Field}
 use Rattle.header.specs.declared.Step.the-variants.{Found}
 use Rattle.header.specs.Fields.{fieldsFrom, fieldsEnd, withTag, occurring, fieldBytes, sizeOf}
-use Rattle.header.specs.Header.{endsAt, sole, foundKeeps, isIdentifier, tagsRight, section1Right}
+use Rattle.header.specs.Header.{endsAt, sole, foundKeeps, isIdentifier, hasSize, anyField, tagsRight, section1Right}
 use Rattle.header.proofs.Laws.{Within, found-within}
 use Rattle.pointers.specs.Pointers.{startOf, endOf, sectionOf}
 use Rattle.record.specs.RecordRules.{lengthRight, recordCheckRight, section0Right, allPlacedRight, checksRight, fieldsRight}
@@ -67,6 +67,22 @@ tags-kept r o =
     let e = kept-first (checksRight r) 4 _ d .1 in
     let f = kept-first (fieldsRight r) 5 _ e .0 in
     and-eq-true-iff (endsAt 1 s (fieldsEnd 16 (fieldsFrom s 16))) _ .0 f .1
+
+-- ---- the date
+
+-- tag 25 has four bytes
+pub date-size : (r : List ℕ) → opens r ≡ true → length (fieldOf r 25) ≡ 4
+unfolding tagsRight hasSize
+date-size r o =
+    let s = sectionOf r 1 in
+    let fs = fieldsFrom s 16 in
+    let a = and-eq-true-iff (foundKeeps (isIdentifier s) (sole (withTag 2 fs))) _ .0 (tags-kept r o) .1 in
+    let b = and-eq-true-iff (foundKeeps anyField (sole (withTag 14 fs))) _ .0 a .1 in
+    let c = and-eq-true-iff (foundKeeps (hasSize 4) (sole (withTag 25 fs))) _ .0 b .0 in
+    let (f, found, h) = sole-first (hasSize 4) (withTag 25 fs) c in
+    let w = found-within 1 25 s 16 f found in
+    let four = eqb-true (sizeOf f) 4 h in
+    rw (field-shown r 25 f o found) (simp (length-take, length-drop) (omega arith))
 
 -- ---- the identifier
 

@@ -54,7 +54,7 @@ pub record Shown (s : List ℕ) (at : ℕ) (e : IndexEntry) : Type 0 where
   pub within : e .next ≤ length s
 
 -- the entry at a place is what its struct says
-seen-there : (s : List ℕ) (at : ℕ) → headSize + headNumber (drop at s) 0 6 ≤ length (drop at s)
+pub seen-there : (s : List ℕ) (at : ℕ) → headSize + headNumber (drop at s) 0 6 ≤ length (drop at s)
     → seen s (shownAt at (entryIn (drop at s))) ≡ entryIn (drop at s)
 unfolding entryIn
 seen-there s at h =
@@ -64,7 +64,7 @@ seen-there s at h =
     rw (e, ← drop-drop headSize at s)
 
 -- a step that shows an entry shows the first, and the others are behind it
-shown-there : (s : List ℕ) (at : ℕ) → isEntry (drop at s) ≡ true → Shown s at (shownAt at (entryIn (drop at s)))
+pub shown-there : (s : List ℕ) (at : ℕ) → isEntry (drop at s) ≡ true → Shown s at (shownAt at (entryIn (drop at s)))
 shown-there s at h =
     let t = drop at s in
     let fits = entry-fits t h in
