@@ -2,11 +2,11 @@
 -- nothing.
 use Prim.Native.Nat.{ℕ, suc, _+_, _-_, _≤_}
 use mathlib.Core.Path.{_≡_, refl, sym, ap, _∙_}
-use mathlib.Core.Bool.{Bool, true, false, not, cond, and-eq-true-iff}
+use mathlib.Core.Bool.{Bool, true, not, and-eq-true-iff}
 use mathlib.Core.List.{List, [], _∷_, _++_, map, map-append, append-assoc, append-nil}
 use mathlib.Core.Logic.{_↔_}
 use native.Mathlib.Omega.{arith}
-use borrow.Author.Tests.{le-leb, eqb-true, eq-eqb, ne-eqb}
+use borrow.Author.Tests.{le-leb, eq-eqb, ne-eqb}
 use lib.Dec.{leb, ltb, eqb}
 use lib.ListN.{length, take, drop, length-append, length-drop, take-append-drop}
 use lib.Seq.{length-take-le, append-snoc, take-append-seam, take-at, drop-at}
@@ -19,7 +19,7 @@ use Rattle.fields.specs.Lookup.{partBytes}
 use Rattle.index.specs.Entry.{Entry, entryBytes, entrySize, entryRight}
 use Rattle.index.specs.Order.{before, inOrder}
 use Rattle.index.specs.Index.{indexBytes, bytesIn, entriesIn, isIndex, indexRight, front, behind, smaller, has, partOrNone, found, findPlace}
-use Rattle.index.proofs.Found.{bytes-split}
+use Rattle.index.proofs.Walk.{bytes-split}
 use Rattle.filing.specs.Filing.{section3Kept, entryOf, roomRight, addRefusal, addAnswer, placeFor, putIn, indexAfter}
 use Rattle.filing.proofs.Laws.{index-used, all-kept}
 use Rattle.arranged.specs.Arranged.{those, Arranged}
@@ -60,10 +60,6 @@ index-exactly s b = (there, λ (o : EntriesInOrder s). rw (o .bytes) (index-of (
 -- ---- an index built afresh
 
 module _ (rs : List (List ℕ)) (s : List ℕ) (b : BuiltAfresh rs s) where
-  -- it has the bytes of its entries
-  built-length : length s ≡ bytesIn (b .entries)
-  built-length = ap length (b .bytes) ∙ index-length (b .entries)
-
   -- its entries keep their rules
   built-kept : every entryRight (b .entries) ≡ true
   built-kept = rule-kept entryRight (map entryOf rs) (b .entries) (b .arranged) (every-map filable entryRight entryOf filed-right rs (b .filed))
@@ -83,6 +79,15 @@ module _ (rs : List (List ℕ)) (s : List ℕ) (b : BuiltAfresh rs s) where
   -- it is an index
   pub built-index : isIndex s ≡ true
   built-index = rw (b .bytes) (index-of (b .entries) built-kept built-years (b .arranged .ordered))
+
+-- the bytes in use of a right one are an index, and its entries are in order
+index-parts : (lent : List ℕ) (used : ℕ) → indexRight lent used ≡ true
+    → (isIndex (take used lent) ≡ true) × (inOrder (entriesIn (take used lent)) ≡ true)
+unfolding indexRight isIndex
+index-parts lent used h =
+    let s = take used lent in
+    let a = and-eq-true-iff (leb used (length lent)) _ .0 h .1 in
+    (a, and-eq-true-iff (eqb (bytesIn (entriesIn s)) (length s)) _ .0 a .1)
 
 -- so the bytes in use are right where they are one
 built-right : (rs : List (List ℕ)) (lent : List ℕ) (used : ℕ) → used ≤ length lent → BuiltAfresh rs (take used lent)
@@ -172,27 +177,41 @@ put-bytes lent used es e bytes size =
     put-between lent (indexBytes near) (indexBytes far) (drop used lent) (bytesIn near) used e whole (index-length near) sum
     ∙ rw (index-append near (e ∷ far))
 
--- bytes that begin with an index built afresh, and go on as what was lent does
-stored : (rs : List (List ℕ)) (lent after s : List ℕ) (end : ℕ) → BuiltAfresh rs s → after ≡ s ++ drop end lent → length s ≡ end
-    → end ≤ length lent → Stored rs lent after end
-stored rs lent after s end b whole size fits =
-    let same : length after ≡ length lent = ap length whole ∙ rw (length-append, length-drop) (omega arith) in
+-- bytes that begin with others, and go on as what was lent does
+record Begun (s lent after : List ℕ) (end : ℕ) : Type 0 where
+  first : take end after ≡ s
+  rest : drop end after ≡ drop end lent
+  size : length after ≡ length lent
+
+-- a record that is accepted by an index of entries leaves the bytes of these and its own, at its place
+begun : (lent : List ℕ) (used : ℕ) (r : List ℕ) (es : List Entry) → addAnswer lent used r .refusal ≡ 0 → take used lent ≡ indexBytes es
+    → entriesIn (take used lent) ≡ es
+    → Begun (indexBytes (placed (entryOf r) es)) lent (indexAfter lent used r) (used + entrySize (entryOf r))
+unfolding addAnswer
+begun lent used r es ok bytes entries =
+    let k = all-kept lent used r ok in
+    let e = entryOf r in
+    let s = indexBytes (placed e es) in
+    let end = used + entrySize e in
+    let size : bytesIn es ≡ used =
+    sym (index-length es) ∙ ap length (sym bytes) ∙ length-take-le used lent (index-used lent used (k .index)) in
+    let long : length s ≡ end = index-length (placed e es) ∙ placed-size e es ∙ rw size in
+    let whole : indexAfter lent used r ≡ s ++ drop end lent =
+    after-then lent used r ok ∙ rw entries (put-bytes lent used es e bytes size) in
     record {
-      index = rw (whole, take-at s (drop end lent) end size) b;
-      fits = omega arith;
-      rest = ap (drop end) whole ∙ drop-at s (drop end lent) end size;
-      size = same;
+      first = ap (take end) whole ∙ take-at s (drop end lent) end long;
+      rest = ap (drop end) whole ∙ drop-at s (drop end lent) end long;
+      size = ap length whole ∙ rw (length-append, length-drop) (omega (arith, k .room));
     }
 
 -- adding a record to an index built afresh gives the index of it and those before it, built afresh
-pub adding : (rs : List (List ℕ)) (lent : List ℕ) (used : ℕ) (r : List ℕ) → used ≤ length lent → BuiltAfresh rs (take used lent)
-    → areBytes r ≡ true → addAnswer lent used r .refusal ≡ 0
-    → Stored (rs ++ (r ∷ [])) lent (indexAfter lent used r) (addAnswer lent used r .used)
-adding rs lent used r fits b bytes ok =
+pub adding : (rs : List (List ℕ)) (lent : List ℕ) (used : ℕ) (r : List ℕ) → BuiltAfresh rs (take used lent) → areBytes r ≡ true
+    → addAnswer lent used r .refusal ≡ 0 → Stored (rs ++ (r ∷ [])) lent (indexAfter lent used r) (addAnswer lent used r .used)
+adding rs lent used r b bytes ok =
     let e = entryOf r in
     let es = b .entries in
     let f = accepted-filable lent used r ok bytes in
-    let size : bytesIn es ≡ used = sym (built-length rs (take used lent) b) ∙ length-take-le used lent fits in
+    let w = begun lent used r es ok (b .bytes) (built-entries rs (take used lent) b) in
     let now : BuiltAfresh (rs ++ (r ∷ [])) (indexBytes (placed e es)) =
     record {
       filed = every-more filable rs r (b .filed) (f .0);
@@ -200,42 +219,29 @@ adding rs lent used r fits b bytes ok =
       arranged = rw map-append (put-in (map entryOf rs) es e (b .arranged));
       bytes = refl;
     } in
-    let after : indexAfter lent used r ≡ indexBytes (placed e es) ++ drop (used + entrySize e) lent =
-    after-then lent used r ok ∙ rw (built-entries rs (take used lent) b) (put-bytes lent used es e (b .bytes) size) in
-    let long : length (indexBytes (placed e es)) ≡ used + entrySize e = index-length (placed e es) ∙ placed-size e es ∙ rw size in
     rw (used-then lent used r ok)
-    (stored (rs ++ (r ∷ [])) lent (indexAfter lent used r) (indexBytes (placed e es)) (used + entrySize e) now after long (f .1))
+    (record { index = rw (w .first) now; fits = omega (arith, f .1, w .size); rest = w .rest; size = w .size })
 
 -- adding a record to any index gives the index of its entry and those that were there, arranged
 pub adding-any : (lent : List ℕ) (used : ℕ) (r : List ℕ) → areBytes lent ≡ true → areBytes r ≡ true → addAnswer lent used r .refusal ≡ 0
     → Grown lent used (entryOf r) (indexAfter lent used r) (addAnswer lent used r .used)
-unfolding addAnswer indexRight isIndex
+unfolding addAnswer indexRight
 adding-any lent used r bytes own ok =
     let s = take used lent in
     let es = entriesIn s in
     let e = entryOf r in
-    let k = all-kept lent used r ok in
     let f = accepted-filable lent used r ok own in
-    let fits = index-used lent used (k .index) in
-    let i = and-eq-true-iff (leb used (length lent)) _ .0 (k .index) .1 in
-    let parts = and-eq-true-iff (eqb (bytesIn es) (length s)) _ .0 i in
-    let size : bytesIn es ≡ used = eqb-true (bytesIn es) (length s) (parts .0) ∙ length-take-le used lent fits in
-    let whole : s ≡ indexBytes es = sym (bytes-back s (every-cut (λ b. ltb b 256) used lent bytes .0) i) in
-    let arranged = put-in es es e (record { ordered = parts .1; each = λ x. refl }) in
+    let i = index-parts lent used (all-kept lent used r ok .index) in
+    let w = begun lent used r es ok (sym (bytes-back s (every-cut (λ b. ltb b 256) used lent bytes .0) (i .0))) refl in
+    let arranged = put-in es es e (record { ordered = i .1; each = λ x. refl }) in
     let right = rule-kept entryRight (es ++ (e ∷ [])) (placed e es) arranged (every-more entryRight es e (entries-right s) (filed-right r (f .0))) in
     let years = rule-kept yearFits (es ++ (e ∷ [])) (placed e es) arranged (every-more yearFits es e (years-fit s) (filed-year r own)) in
-    let end = used + entrySize e in
-    let long : length (indexBytes (placed e es)) ≡ end = index-length (placed e es) ∙ placed-size e es ∙ rw size in
-    let after : indexAfter lent used r ≡ indexBytes (placed e es) ++ drop end lent =
-    after-then lent used r ok ∙ put-bytes lent used es e whole size in
-    let now : take end (indexAfter lent used r) ≡ indexBytes (placed e es) =
-    ap (take end) after ∙ take-at (indexBytes (placed e es)) (drop end lent) end long in
-    let same : length (indexAfter lent used r) ≡ length lent = ap length after ∙ rw (length-append, length-drop) (omega (arith, f .1)) in
+    let within = le-leb (used + entrySize e) (length (indexAfter lent used r)) (omega (arith, f .1, w .size)) in
     rw (used-then lent used r ok) (record {
-      right = rw (now, le-leb end (length (indexAfter lent used r)) (omega (arith, f .1))) (index-of (placed e es) right years (arranged .ordered));
-      arranged = rw (now, entries-back (placed e es) right years) arranged;
-      rest = ap (drop end) after ∙ drop-at (indexBytes (placed e es)) (drop end lent) end long;
-      size = same;
+      right = rw (w .first, within) (index-of (placed e es) right years (arranged .ordered));
+      arranged = rw (w .first, entries-back (placed e es) right years) arranged;
+      rest = w .rest;
+      size = w .size;
     })
 
 -- ---- adding records one after another
@@ -257,7 +263,7 @@ added-from old (done {lent = lent} {used = used}) bs fits b =
     (rw append-nil (record { index = b; fits = fits; rest = refl; size = refl }), omega arith)
 added-from old (next {lent = lent} {after = after} {used = used} {end = end} r rs ok all) bs fits b =
     let p = every-parts areBytes r rs bs in
-    let now = adding old lent used r fits b (p .0) ok in
+    let now = adding old lent used r b (p .0) ok in
     let used′ = addAnswer lent used r .used in
     let k = added-from (old ++ (r ∷ [])) all (p .1) (now .fits) (now .index) in
     let whole = stored-on (old ++ (r ∷ []) ++ rs) lent (indexAfter lent used r) after used′ end (now .rest) (now .size) (k .1) (k .0) in
@@ -276,7 +282,7 @@ accepted-from old [] lent used fs b room = record { after = lent; end = used; ad
 accepted-from old (r ∷ rs) lent used fs b room =
     let f = every-parts filable r rs fs in
     let ok = accepted-one old lent used r b (f .0) (omega arith) in
-    let now = adding old lent used r (omega arith) b (filable-bytes r (f .0)) ok in
+    let now = adding old lent used r b (filable-bytes r (f .0)) ok in
     let used′ = addAnswer lent used r .used in
     let room′ : used′ + bytesIn (map entryOf rs) ≤ length (indexAfter lent used r) =
     omega (arith, used-then lent used r ok, now .size) in
@@ -332,15 +338,6 @@ module _ (id : List ℕ) (es : List Entry) where
 find-found : (lent id : List ℕ) (used : ℕ) → indexRight lent used ≡ true → findPlace lent used id ≡ found id (entriesIn (take used lent))
 unfolding findPlace
 find-found lent id used h = rw h
-
--- its bytes in use are an index, and its entries are in order
-index-parts : (lent : List ℕ) (used : ℕ) → indexRight lent used ≡ true
-    → (isIndex (take used lent) ≡ true) × (inOrder (entriesIn (take used lent)) ≡ true)
-unfolding indexRight isIndex
-index-parts lent used h =
-    let s = take used lent in
-    let a = and-eq-true-iff (leb used (length lent)) _ .0 h .1 in
-    (a, and-eq-true-iff (eqb (bytesIn (entriesIn s)) (length s)) _ .0 a .1)
 
 -- looking up shows all and only the entries of the identifier
 pub all-and-only : (lent id : List ℕ) (used : ℕ) → areBytes lent ≡ true → indexRight lent used ≡ true

@@ -54,7 +54,7 @@ pub data AddedAll : List ℕ → ℕ → List (List ℕ) → List ℕ → ℕ �
   next : {lent after : List ℕ} {used end : ℕ} (r : List ℕ) (rs : List (List ℕ)) → addAnswer lent used r .refusal ≡ 0
       → AddedAll (indexAfter lent used r) (addAnswer lent used r .used) rs after end → AddedAll lent used (r ∷ rs) after end
 
--- they can be: there are a lent index and a number of bytes in use to which that leads
+-- all of them are accepted: there are a lent index and a number of bytes in use to which adding them leads
 pub record Accepted (lent : List ℕ) (used : ℕ) (rs : List (List ℕ)) : Type 0 where
   pub after : List ℕ
   pub end : ℕ
@@ -67,7 +67,7 @@ pub record Stored (rs : List (List ℕ)) (lent after : List ℕ) (end : ℕ) : T
   pub rest : drop end after ≡ drop end lent
   pub size : length after ≡ length lent
 
--- a place in the index s is all and only the entries of an identifier: entries stand in front of it, in it and behind it, and these are all
+-- a place in the index s holds all and only the entries of an identifier: entries stand in front of it, in it and behind it, and these are all
 -- that the index has; every one in it is of the identifier, and none outside of it is
 pub record AllAndOnly (id s : List ℕ) (place : Place) : Type 0 where
   pub ahead : List Entry

@@ -1,6 +1,6 @@
 -- The auditor's index (02, Q-13): adding records one after another gives what building afresh gives, and looking up shows all and only the
--- entries of an identifier. rs are records in order of arrival, r is one more, and s is the bytes of an index; of a lent index `lent`, `used`
--- bytes are in use. All that is lent are bytes, by its type (`bytes_fit`, crates/answers/src/lib.rt).
+-- entries of an identifier. rs are records in order of arrival, r is one more, s and t are bytes, and id is an identifier without its NUL; of
+-- a lent index `lent`, `used` bytes are in use. All that is lent are bytes, by its type (`bytes_fit`, crates/answers/src/lib.rt).
 use Prim.Native.Nat.{ℕ, _+_, _≤_}
 use mathlib.Core.Path.{_≡_}
 use mathlib.Core.Bool.{true}
@@ -26,13 +26,14 @@ twelveLeads id year month day = record { identifier = id; year = year; month = m
 pub record AuditorsIndex : Type 0 where
   -- Bytes are an index exactly if they are those of entries that keep their rules, in order
   pub index-exactly : (s : List ℕ) → areBytes s ≡ true → (isIndex s ≡ true) ↔ EntriesInOrder s
-  -- Records in an order of arrival have no two indexes built afresh. It is one by the rules, and its entries are read back as they were filed
+  -- Records in an order of arrival have at most one index built afresh (`accepted-all` and `adding-all` give one). It keeps the rules of an
+  -- index, and its entries are read back as they were filed
   pub one-index : (rs : List (List ℕ)) (s t : List ℕ) → BuiltAfresh rs s → BuiltAfresh rs t → s ≡ t
   pub built-right : (rs : List (List ℕ)) (s : List ℕ) → BuiltAfresh rs s → isIndex s ≡ true
   pub read-back : (rs : List (List ℕ)) (s : List ℕ) → BuiltAfresh rs s → Arranged (map entryOf rs) (entriesIn s)
   -- Adding a record that is accepted gives the index built afresh from all of them; behind that the lent bytes stay. A record that keeps the
   -- rules that adding asks of it is accepted where there is room for its entry
-  pub adding-one : (rs : List (List ℕ)) (lent : List ℕ) (used : ℕ) (r : List ℕ) → used ≤ length lent → BuiltAfresh rs (take used lent)
+  pub adding-one : (rs : List (List ℕ)) (lent : List ℕ) (used : ℕ) (r : List ℕ) → BuiltAfresh rs (take used lent)
       → areBytes r ≡ true → addAnswer lent used r .refusal ≡ 0
       → Stored (rs ++ (r ∷ [])) lent (indexAfter lent used r) (addAnswer lent used r .used)
   pub accepted-one : (rs : List (List ℕ)) (lent : List ℕ) (used : ℕ) (r : List ℕ) → BuiltAfresh rs (take used lent) → filable r ≡ true

@@ -1,13 +1,13 @@
 -- The customer's three demands, stated in full over what the contracts of the public calls say (crates/scp/src/lib.rt; `field` of
--- crates/fields; `find` of crates/index; the walker): the right sides of their equations, and the relations LeadEncoding and RecordWriting. 01 cites the demands
--- by number; their own words are quoted here behind a ">", each clause above the lines that state it.
+-- crates/fields; `find` of crates/index; the walker): the right sides of their equations, and the relations LeadEncoding and
+-- RecordWriting. 01 cites the demands by number; their own words are quoted here behind a ">", each clause above the lines that state it.
 --
 -- The names below. r is the bytes of a record, and `place` a lead's place in it, from 1. s2 is Section 2's data as the writer is given
 -- them, xs a lead's samples, j a job. `work` and `out` are the work space and the output before a call; a is what the call answered, w
 -- the work space and o the output after it. `room` is how many elements an output has that is lent to the reader; where `work` is a
 -- number, it is how many the work space has. A field is the k-th with its tag, from 1; a refusal that is `suc n` is not 0. What is
--- `lent` to opening are numbers; else it is the auditor's index, of which `used` bytes are in use. s is any bytes, and id an identifier without
--- its NUL.
+-- `lent` to opening are numbers; else it is the auditor's index, of which `used` bytes are in use. s is any bytes, and id an identifier
+-- without its NUL. `entryOf` is a lead's entry, and `F.entryOf` a record's entry in the index.
 --
 -- > Any bytes and any numbers may come in, and every call ends.
 -- The checker accepts a function only if it ends, for all that may come in; no call has a condition on its caller. It also accepts none
@@ -249,11 +249,13 @@ pub record Demand2 : Type 0 where
       → StreamFor (tablesOf r) order xs bs ↔ BeginsWithStream mostLeftOver (tablesOf r) order xs bs
   pub undone-given : (s2 : List ℕ) (order : ℕ) (xs : List ℤ) (bs : List ℕ) → tablesGivenRight s2 ≡ true → every fits16 xs ≡ true
       → StreamFor (tablesGiven s2) order xs bs ↔ BeginsWithStream mostLeftOver (tablesGiven s2) order xs bs
-  -- where all rows of adding are kept, the record's entry is put in at its place. `AuditorsIndex` says what that gives, and what looking up shows
+  -- where all rows of adding are kept, the record's entry is put in at its place. `AuditorsIndex` says what that gives, and what looking
+  -- up shows
   pub added : (lent : List ℕ) (used : ℕ) (r : List ℕ) → AllKept (rowsAdded lent used r)
       → (addAnswer lent used r ≡ record { refusal = 0; used = used + entrySize (F.entryOf r) })
       × (indexAfter lent used r ≡ putIn lent used (placeFor (F.entryOf r) (entriesIn (take used lent))) (F.entryOf r))
-  -- a step at a place of any bytes shows the entry there, its identifier as a part of the bytes, and the place of the others; or that there is none
+  -- a step at a place of any bytes shows the entry there, its identifier as a part of the bytes, and the place behind it, from which the
+  -- others follow; or that there is none
   pub listed : (s : List ℕ) (at : ℕ) → isEntry (drop at s) ≡ true
       → (entryAt s at ≡ shownAt at (entryIn (drop at s)))
       × (entriesIn (drop at s) ≡ entryIn (drop at s) ∷ entriesIn (drop (entryAt s at .next) s))
@@ -341,9 +343,9 @@ pub record Demand3 : Type 0 where
 -- ---- any two outcomes that a contract allows are equal (01, What the contracts have to settle)
 
 pub record OneOutcome : Type 1 where
-  -- where the contract is an equation of the answer, or of a lent element afterwards: it says so by its form. `field`, `find` of the index, and the walker's
-  -- `start` and `step`, hand back a part of what was lent: their contracts are equations of its bytes and of its place, which is all that
-  -- a part is
+  -- where the contract is an equation of the answer, or of a lent element afterwards: it says so by its form. `field`, `find` of the
+  -- index, and the walker's `start` and `step`, hand back a part of what was lent: their contracts are equations of its bytes and of its
+  -- place, which is all that a part is
   pub equation : {A : Type 0} (a b of : A) → a ≡ of → b ≡ of → a ≡ b
   -- opening, which answers field by field
   pub opening : (r lent : List ℕ) (a b : ScpOpened) (p q : List ℕ)

@@ -9,6 +9,7 @@ ghost use Rattle.record.specs.Opening.{openRefusal};
 ghost use Rattle.packing.specs.Packing.{packed};
 ghost use Rattle.index.specs.Entry.{headBits, entryBytes, entrySize};
 ghost use Rattle.index.specs.Index.{entriesIn};
+ghost use Rattle.index.specs.InnerSteps.{Whole};
 ghost use Rattle.filing.specs.Filing.{section3Kept, leadsOf, entryOf, dateKept, addRefusal, addAnswer, placeFor, putIn, indexAfter};
 ghost use Rattle.filing.specs.InnerFiling.{filed, dateOn};
 use index::Date;
@@ -96,20 +97,19 @@ fn entry_size(rec: &[u8]) -> usize
 
 // The place of an entry among those of an index: in front of the first that it comes before.
 fn place_for(s: &[u8], id: &[u8], date: Date) -> usize
+    requires { ⌜ Whole (now s) 0 ⌝ }
     ensures { λ r. ⌜ (r ≡ placeFor (filed (now (id .entry)) date 0) (entriesIn (now (s .entry)))) × (r ≤ length (now (s .entry))) ⌝ }
 {
     let mut at = 0;
-    loop {
-        let e = index::step(s, at);
-        if e.more == 0 {
-            return at;
-        }
+    while at < s.len() {
+        let e = index::entry_at(s, at);
         let own = wire::part_of(s, e.start, e.next);
         if index::is_before(id, date, own, index::date_of(e)) {
             return at;
         }
         at = e.next;
     }
+    at
 }
 
 // What is in use from a place on moves on by `size` bytes, the last byte first.

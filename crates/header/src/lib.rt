@@ -142,13 +142,16 @@ fn ends_at(s: &[u8], at: usize, spare: usize) -> bool
     true
 }
 
-// No byte from one place up to another is NUL.
+// No byte from one place up to another is NUL. A byte that is not there counts as NUL.
 pub fn no_nul(s: &[u8], from: usize, to: usize) -> bool
     ensures { λ r. ⌜ r ≡ allIn from to (λ i. not (eqb (byteAt (now (s .entry)) i) 0)) ⌝ }
 {
+    if s.len() < to {
+        return to <= from;
+    }
     let mut i = from;
     while i < to {
-        if wire::byte(s, i) == 0 {
+        if s[i] == 0 {
             return false;
         }
         i += 1;

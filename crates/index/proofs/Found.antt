@@ -1,30 +1,19 @@
 -- Where the entries of an identifier are: as the walks find it, and within the index. Assumes nothing.
-use Prim.Native.Nat.{ℕ, suc, _+_, _-_, _≤_}
-use mathlib.Core.Path.{_≡_, refl, sym, ap, _∙_}
-use mathlib.Core.Bool.{Bool, true, false, _&&_, cond, and-eq-true-iff}
-use mathlib.Core.List.{List, [], _∷_}
+use Prim.Native.Nat.{ℕ, _+_, _-_, _≤_}
+use mathlib.Core.Path.{_≡_, refl}
+use mathlib.Core.Bool.{Bool, true, false, cond, and-eq-true-iff}
+use mathlib.Core.List.{List}
 use native.Mathlib.Omega.{arith}
 use lib.Dec.{leb, eqb}
-use lib.ListN.{length, take, length-take}
-use borrow.Author.Tests.{leb-true, eqb-true, eq-eqb, ne-eqb}
+use lib.ListN.{length, take, drop, length-take}
+use borrow.Author.Tests.{eqb-true, eq-eqb, ne-eqb}
 use Rattle.wire.proofs.Laws.{unlike}
-use Rattle.fields.specs.declared.Place.{Place}
 use Rattle.fields.specs.declared.Place.the-variants.{At, Refused}
 use Rattle.index.specs.Entry.{Entry}
 use Rattle.index.specs.Order.{inOrder}
 use Rattle.index.specs.Index.{bytesIn, entriesIn, isIndex, indexRight, front, behind, smaller, has, partOrNone, found, findPlace}
-use Rattle.index.specs.InnerSteps.{Passed}
-
--- the bytes of entries up to the first that breaks a rule and of those from it on are the bytes of all
-pub bytes-split : (rule : Entry → Bool) (es : List Entry) → bytesIn (front rule es) + bytesIn (behind rule es) ≡ bytesIn es
-unfolding front behind bytesIn
-bytes-split rule [] = refl
-bytes-split rule (e ∷ es) = go (rule e) (bytes-split rule es)
-  where
-    go : (b : Bool) → bytesIn (front rule es) + bytesIn (behind rule es) ≡ bytesIn es
-        → bytesIn (cond b (e ∷ front rule es) []) + bytesIn (cond b (behind rule es) (e ∷ es)) ≡ bytesIn (e ∷ es)
-    go true h = omega arith
-    go false h = omega arith
+use Rattle.index.specs.InnerSteps.{Whole, Passed}
+use Rattle.index.proofs.Walk.{bytes-split}
 
 -- two walks, past the smaller identifiers and then past the identifier's own entries, find their place
 pub walks-find : (id s : List ℕ) (start end : ℕ) → Passed (smaller id) s 0 start → Passed (has id) s start end
@@ -35,6 +24,19 @@ walks-find id s start end p q =
     let a : bytesIn (front (smaller id) (entriesIn s)) ≡ start = omega (arith, p .place) in
     let b : bytesIn (front (has id) (behind (smaller id) (entriesIn s))) ≡ end - start = omega arith in
     rw (a, b)
+
+-- entries take up all bytes of an index, from the start and from where the first walk ends
+pub whole-index : (lent : List ℕ) (used : ℕ) → indexRight lent used ≡ true → Whole (take used lent) 0
+unfolding indexRight isIndex
+whole-index lent used h =
+    let s = take used lent in
+    let es = entriesIn s in
+    let i = and-eq-true-iff (leb used (length lent)) (isIndex s) .0 h .1 in
+    let n = eqb-true (bytesIn es) (length s) (and-eq-true-iff (eqb (bytesIn es) (length s)) (inOrder es) .0 i .0) in
+    omega (arith, n)
+
+pub whole-passed : (rule : Entry → Bool) (s : List ℕ) (from at : ℕ) → Passed rule s from at → Whole s from → Whole s at
+whole-passed rule s from at p w = rw (p .rest) (omega (arith, p .place, w, bytes-split rule (entriesIn (drop from s))))
 
 -- a part that has bytes, and one that has none
 pub part-some : (start size : ℕ) → (size ≡ 0 → ⊥) → partOrNone start size ≡ At start size

@@ -2,12 +2,12 @@
 use Prim.Native.Nat.{ℕ, _+_, _-_, _*_, _/_, _%_, _^_, _≤_, _<_}
 use mathlib.Core.Path.{_≡_, refl, sym, ap, _∙_}
 use mathlib.Core.Bool.{Bool, true, false, not, _&&_, and-false, and-true, and-eq-true-iff}
-use mathlib.Core.List.{List, [], _∷_}
+use mathlib.Core.List.{List, _++_}
 use native.Mathlib.Nat.{add-assoc}
 use native.Mathlib.Omega.{arith}
 use lib.Dec.{leb, eqb}
-use lib.ListN.{length, take, drop, length-drop}
-use lib.Seq.{length-take-le, drop-drop}
+use lib.ListN.{length, take, drop, length-append, length-drop, take-append-drop}
+use lib.Seq.{length-take-le, take-take, drop-drop}
 use borrow.Author.Tests.{le-leb, lt-leb, leb-true}
 use Rattle.wire.specs.Bounds.{mostLeads}
 use Rattle.wire.specs.Numbers.{byteAt}
@@ -16,7 +16,7 @@ use Rattle.wire.proofs.Every.{all-every}
 use Rattle.bits.specs.Bits.{highFirst, bitsIn, numberOf}
 use Rattle.bits.specs.InnerWindow.{Window}
 use Rattle.bits.proofs.Laws.{length-bitsIn, small-bitsIn, small-take, small-drop, number-small}
-use Rattle.bits.proofs.Windows.{window-after}
+use Rattle.bits.proofs.Windows.{bits-before, window-after}
 use Rattle.packing.specs.Packing.{packed}
 use Rattle.packing.proofs.Laws.{length-packed}
 use Rattle.index.specs.declared.IndexEntry.{IndexEntry}
@@ -35,6 +35,17 @@ notNul b = not (eqb b 0)
 -- the bits of five bytes
 pub head-bits : (t : List ℕ) → headSize ≤ length t → length (bitsIn (take headSize t)) ≡ 40
 head-bits t h = length-bitsIn (take headSize t) ∙ ap (λ (n : ℕ). n * 8) (length-take-le headSize t h)
+
+-- a window on eight bytes, or as many as there are, is one on them
+pub head-window : (t : List ℕ) (w : ℕ) → Window (bitsIn (take 8 t)) w → Window (bitsIn (take headSize t)) w
+head-window t w seen k h l =
+    let first = take headSize t in
+    let rest = drop headSize (take 8 t) in
+    let whole : take 8 t ≡ first ++ rest =
+    sym (take-append-drop headSize (take 8 t)) ∙ ap (λ (s : List ℕ). s ++ rest) (take-take headSize 8 t (omega arith)) in
+    let longer : k ≤ length (bitsIn (take 8 t)) =
+    omega (arith, length-bitsIn (take 8 t), length-bitsIn first, ap length whole, length-append first rest) in
+    seen k h longer ∙ ap numberOf (ap (λ (s : List ℕ). take k (bitsIn s)) whole ∙ bits-before first rest 0 k (omega arith))
 
 -- a number that a window on them shows
 pub head-number : (t : List ℕ) (w p q : ℕ) → Window (bitsIn (take headSize t)) w → headSize ≤ length t → p + q ≤ 40

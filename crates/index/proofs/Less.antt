@@ -1,14 +1,15 @@
 -- One list of numbers before another, element by element. Assumes nothing.
-use Prim.Native.Nat.{ℕ, suc, _≤_, _<_}
-use mathlib.Core.Path.{_≡_, refl, sym, _∙_}
-use mathlib.Core.Bool.{Bool, true, false, or-false, and-false}
+use Prim.Native.Nat.{ℕ, suc, min, _<_}
+use mathlib.Core.Path.{_≡_, refl, _∙_}
+use mathlib.Core.Bool.{Bool, false, _&&_, _||_, or-false, and-false}
 use mathlib.Core.List.{List, [], _∷_}
-use native.Mathlib.Decide.{decLe}
+use native.Mathlib.Decide.{decLt}
 use native.Mathlib.Omega.{arith}
 use lib.Dec.{ltb}
 use lib.ListN.{length, getD, drop, drop-of-length-le}
 use lib.Seq.{drop-cons}
 use borrow.Author.Tests.{le-ltb, lt-ltb, eq-eqb, ne-eqb}
+use Rattle.fields.specs.Identifier.{same}
 use Rattle.index.specs.Order.{less}
 
 -- elements that are equal leave it to those behind them
@@ -26,29 +27,56 @@ pub less-last : (x y : ℕ) → less (x ∷ []) (y ∷ []) ≡ ltb x y
 unfolding less
 less-last x y = simp (and-false, or-false)
 
--- the same from a place on: a turn of the comparison
-pub less-turn : (a b : List ℕ) (i : ℕ) → i < length a → i < length b → getD a i 0 ≡ getD b i 0
-    → less (drop i a) (drop i b) ≡ less (drop (suc i) a) (drop (suc i) b)
-less-turn a b i h k e = rw (drop-cons a i 0 h, drop-cons b i 0 k) (less-equal (getD a i 0) (getD b i 0) (drop (suc i) a) (drop (suc i) b) e)
-
-pub less-here : (a b : List ℕ) (i : ℕ) → i < length a → i < length b → (getD a i 0 ≡ getD b i 0 → ⊥)
-    → less (drop i a) (drop i b) ≡ ltb (getD a i 0) (getD b i 0)
-less-here a b i h k e = rw (drop-cons a i 0 h, drop-cons b i 0 k) (less-differ (getD a i 0) (getD b i 0) (drop (suc i) a) (drop (suc i) b) e)
-
--- where the second has ended, it is not longer
-pub less-past : (a b : List ℕ) (i : ℕ) → length b ≤ i → less (drop i a) (drop i b) ≡ false
+-- nothing comes before itself
+less-self : (a : List ℕ) → less a a ≡ false
 unfolding less
-less-past a b i h = rw (drop-of-length-le b h)
+less-self [] = refl
+less-self (x ∷ a) = less-equal x x a a refl ∙ less-self a
 
--- where the first alone has ended, it comes first
-less-longer : (a b : List ℕ) (i : ℕ) → length a ≡ i → i < length b → less (drop i a) (drop i b) ≡ true
-unfolding less
-less-longer a b i e h = rw (drop-of-length-le a {i = i} (omega arith), drop-cons b i 0 h)
+-- ---- and where they are the same, something else decides
 
--- where the first has ended, the lengths decide
-pub less-end : (a b : List ℕ) (i : ℕ) → length a ≡ i → less (drop i a) (drop i b) ≡ ltb i (length b)
-less-end a b i e = go (decLe (length b) i)
-  where
-    go : Dec (length b ≤ i) → less (drop i a) (drop i b) ≡ ltb i (length b)
-    go (yes h) = less-past a b i h ∙ sym (le-ltb i (length b) h)
-    go (no h) = less-longer a b i e (omega arith) ∙ sym (lt-ltb i (length b) (omega arith))
+abbrev pub decided : List ℕ → List ℕ → Bool → Bool
+decided a b then = less a b || (same a b && then)
+
+-- on one day the lists decide alone
+pub decided-alone : (a b d : List ℕ) → decided a b (less d d) ≡ less a b
+decided-alone a b d = rw (less-self d, and-false (same a b)) (or-false (less a b))
+
+-- from a place on, where neither has ended: equal elements leave it to those behind them
+module _ (a b : List ℕ) (i : ℕ) (then : Bool) (h : i < length a) (k : i < length b) where
+  pub decided-turn : getD a i 0 ≡ getD b i 0 → decided (drop i a) (drop i b) then ≡ decided (drop (suc i) a) (drop (suc i) b) then
+  unfolding same
+  decided-turn e =
+      rw (
+        drop-cons a i 0 h,
+        drop-cons b i 0 k,
+        less-equal (getD a i 0) (getD b i 0) (drop (suc i) a) (drop (suc i) b) e,
+        eq-eqb (getD a i 0) (getD b i 0) e,
+      )
+
+  -- and elements that differ decide
+  pub decided-here : (getD a i 0 ≡ getD b i 0 → ⊥) → decided (drop i a) (drop i b) then ≡ ltb (getD a i 0) (getD b i 0)
+  unfolding same
+  decided-here e =
+      rw (
+        drop-cons a i 0 h,
+        drop-cons b i 0 k,
+        less-differ (getD a i 0) (getD b i 0) (drop (suc i) a) (drop (suc i) b) e,
+        ne-eqb (getD a i 0) (getD b i 0) e,
+      )
+      (or-false (ltb (getD a i 0) (getD b i 0)))
+
+-- where one has ended and not the other, the shorter comes first; where both have, they are the same
+module _ (a b : List ℕ) (i : ℕ) (then : Bool) (h : i ≡ min (length a) (length b)) where
+  pub decided-ended : (length a ≡ length b → ⊥) → decided (drop i a) (drop i b) then ≡ ltb (length a) (length b)
+  unfolding less same
+  decided-ended differ = go (decLt (length a) (length b))
+    where
+      go : Dec (length a < length b) → decided (drop i a) (drop i b) then ≡ ltb (length a) (length b)
+      go (yes k) = rw (drop-of-length-le a {i = i} (omega arith), drop-cons b i 0 (omega arith), lt-ltb (length a) (length b) k)
+      go (no k) =
+          rw (drop-cons a i 0 (omega (arith, differ)), drop-of-length-le b {i = i} (omega arith), le-ltb (length a) (length b) (omega arith))
+
+  pub decided-same : length a ≡ length b → decided (drop i a) (drop i b) then ≡ then
+  unfolding less same
+  decided-same e = rw (drop-of-length-le a {i = i} (omega arith), drop-of-length-le b {i = i} (omega arith))

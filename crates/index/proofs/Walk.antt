@@ -1,21 +1,21 @@
 -- Entries one after another: what a step shows of them, how far those that keep a rule go, and what is judged on the way. Assumes nothing.
 use Prim.Native.Nat.{ℕ, zero, suc, _+_, _-_, _≤_, _<_}
-use mathlib.Core.Path.{_≡_, refl, sym, ap, ap₂, _∙_}
-use mathlib.Core.Bool.{Bool, true, false, not, _&&_, cond, and-false, and-true}
+use mathlib.Core.Path.{_≡_, refl, sym, ap, _∙_}
+use mathlib.Core.Bool.{Bool, true, false, _&&_, cond, and-false, and-true, and-eq-true-iff}
 use mathlib.Core.List.{List, [], _∷_}
-use native.Mathlib.Decide.{ℕ-discrete, decLe}
+use native.Mathlib.Decide.{decLe}
 use native.Mathlib.Omega.{arith}
-use native.Mathlib.Nat.{add-assoc, add-zero}
-use lib.Dec.{eqb}
+use native.Mathlib.Nat.{zero-add, add-zero}
+use lib.Dec.{leb, eqb}
 use lib.ListN.{length, take, drop, length-drop}
 use lib.Seq.{drop-drop}
-use borrow.Author.Tests.{ne-eqb}
-use Rattle.wire.proofs.Laws.{unlike}
+use borrow.Author.Tests.{leb-true}
 use Rattle.index.specs.declared.IndexEntry.{IndexEntry}
-use Rattle.index.specs.Entry.{Entry, headSize, entrySize, headNumber, entryIn, isEntry, shownAt, noneAt, entryAt}
-use Rattle.index.specs.Order.{before, orderedFrom, inOrder}
+use Rattle.fields.specs.Identifier.{same}
+use Rattle.index.specs.Entry.{Entry, headSize, entrySize, headNumber, entryIn, zeroBit, entryRight, isEntry, shownAt, noneAt, entryAt}
+use Rattle.index.specs.Order.{less, dateOf, before, orderedFrom, inOrder}
 use Rattle.index.specs.Index.{bytesIn, entriesFrom, entriesIn, isIndex, front, behind}
-use Rattle.index.specs.InnerSteps.{seen, Passed}
+use Rattle.index.specs.InnerSteps.{seen, Whole, Passed}
 use Rattle.index.proofs.Heads.{identifier-length, entry-cut, entry-fits}
 
 -- ---- all entries, whatever the bound on the steps
@@ -76,25 +76,26 @@ shown-there s at h =
       within = omega (arith, identifier-length t fits, length-drop at s);
     }
 
--- the step's struct says whether there is one
-pub shown : (s : List ℕ) (at : ℕ) (e : IndexEntry) → e ≡ entryAt s at → (e .more ≡ 0 → ⊥) → Shown s at e
+pub shown-at : (s : List ℕ) (at : ℕ) (e : IndexEntry) → e ≡ entryAt s at → isEntry (drop at s) ≡ true → Shown s at e
 unfolding entryAt
-shown s at e is more = go (isEntry (drop at s)) refl
-  where
-    go : (b : Bool) → isEntry (drop at s) ≡ b → Shown s at e
-    go true h = rw (is, h) (shown-there s at h)
-    go false h = absurd (more (rw (is, h)))
+shown-at s at e is h = rw (is, h) (shown-there s at h)
 
-pub unshown : (s : List ℕ) (at : ℕ) (e : IndexEntry) → e ≡ entryAt s at → e .more ≡ 0 → entriesIn (drop at s) ≡ []
-unfolding entryAt
-unshown s at e is none = entries-step (drop at s) ∙ go (isEntry (drop at s)) refl
-  where
-    go : (b : Bool) → isEntry (drop at s) ≡ b
-        → cond (isEntry (drop at s)) (entryIn (drop at s) ∷ entriesIn (drop (entrySize (entryIn (drop at s))) (drop at s))) [] ≡ []
-    go true h = unlike (sym none ∙ rw (is, h))
-    go false h = rw h
+-- where there is none, there are none behind it
+pub none-there : (s : List ℕ) (at : ℕ) → isEntry (drop at s) ≡ false → entriesIn (drop at s) ≡ []
+none-there s at h = rw (entries-step (drop at s), h)
 
 -- ---- the entries that keep a rule
+
+-- the bytes of entries up to the first that breaks a rule and of those from it on are the bytes of all
+pub bytes-split : (rule : Entry → Bool) (es : List Entry) → bytesIn (front rule es) + bytesIn (behind rule es) ≡ bytesIn es
+unfolding front behind bytesIn
+bytes-split rule [] = refl
+bytes-split rule (e ∷ es) = go (rule e) (bytes-split rule es)
+  where
+    go : (b : Bool) → bytesIn (front rule es) + bytesIn (behind rule es) ≡ bytesIn es
+        → bytesIn (cond b (e ∷ front rule es) []) + bytesIn (cond b (behind rule es) (e ∷ es)) ≡ bytesIn (e ∷ es)
+    go true h = omega arith
+    go false h = omega arith
 
 -- a walk from a place has reached another: those that keep the rule from there on are the last of those that do from the first place on
 pub record Going (rule : Entry → Bool) (s : List ℕ) (from at : ℕ) : Type 0 where
@@ -133,6 +134,26 @@ module _ (rule : Entry → Bool) (s : List ℕ) where
     within = g .within;
   }
 
+-- ---- entries that take up all bytes
+
+-- from a place before the end on there is one
+pub whole-entry : (s : List ℕ) (at : ℕ) → Whole s at → at < length s → isEntry (drop at s) ≡ true
+unfolding bytesIn
+whole-entry s at w h = go (isEntry (drop at s)) refl
+  where
+    go : (b : Bool) → isEntry (drop at s) ≡ b → isEntry (drop at s) ≡ true
+    go true e = e
+    go false e = absurd (omega (arith, rw (none-there s at e) at w))
+
+-- at the end there is none
+pub none-past : (s : List ℕ) (at : ℕ) → length s ≤ at → entriesIn (drop at s) ≡ []
+none-past s at h = none-there s at (entry-cut (drop at s) (omega (arith, length-drop at s)))
+
+-- they do so wherever a walk has reached
+pub going-whole : (rule : Entry → Bool) (s : List ℕ) (from at : ℕ) → Going rule s from at → Whole s from → Whole s at
+going-whole rule s from at g w =
+    omega (arith, g .place, w, ap bytesIn (g .rest), bytes-split rule (entriesIn (drop at s)), bytes-split rule (entriesIn (drop from s)))
+
 -- ---- judging
 
 -- all entries up to one were judged: those behind it decide
@@ -141,10 +162,32 @@ pub record Judged (s : List ℕ) (e : IndexEntry) : Type 0 where
   pub order : inOrder (entriesIn s) ≡ orderedFrom (seen s e) (entriesIn (drop (e .next) s))
   pub within : e .next ≤ length s
 
+-- an entry at the front has an identifier
+named : (s : List ℕ) → isEntry s ≡ true → 1 ≤ length (entryIn s .identifier)
+unfolding isEntry entryRight
+named s h =
+    let a = and-eq-true-iff (leb (headSize + headNumber s 0 6) (length s)) _ .0 h in
+    let e = and-eq-true-iff (eqb (zeroBit s) 0) _ .0 (a .1) in
+    leb-true 1 (length (entryIn s .identifier)) (and-eq-true-iff (leb 1 (length (entryIn s .identifier))) _ .0 (e .1) .0)
+
+-- and does not come before one that has none
+not-before-none : (e f : Entry) → 1 ≤ length (e .identifier) → f .identifier ≡ [] → before e f ≡ false
+unfolding before less same
+not-before-none e f h none = rw none (go (e .identifier) h)
+  where
+    go : (id : List ℕ) → 1 ≤ length id → same id [] && less (dateOf e) (dateOf f) ≡ false
+    go [] k = absurd (omega arith)
+    go (x ∷ id) k = refl
+
 module _ (s : List ℕ) where
-  pub judged-first : (e : IndexEntry) → Shown s 0 e → Judged s e
-  unfolding bytesIn inOrder
-  judged-first e w = record { size = rw (w .entries) (omega (arith, w .size)); order = rw (w .entries) refl; within = w .within }
+  -- before the first there is none, and no identifier: no entry comes before that
+  pub judged-from : Judged s (noneAt 0)
+  unfolding inOrder orderedFrom
+  judged-from = record { size = sym (zero-add _); order = go (isEntry s) refl; within = omega arith }
+    where
+      go : (b : Bool) → isEntry s ≡ b → inOrder (entriesIn s) ≡ orderedFrom (seen s (noneAt 0)) (entriesIn s)
+      go false h = rw (entries-step s, h)
+      go true h = rw (entries-step s, h, not-before-none (entryIn s) (seen s (noneAt 0)) (named s h) refl)
 
   -- the next does not come before it
   pub judged-on : (e f : IndexEntry) → Judged s e → Shown s (e .next) f → before (seen s f) (seen s e) ≡ false → Judged s f
@@ -168,12 +211,3 @@ module _ (s : List ℕ) where
       let size : bytesIn (entriesIn s) ≡ e .next = rw none at (j .size) ∙ add-zero (e .next) in
       let order = rw none at (j .order) in
       rw (size, order) (and-true (eqb (e .next) (length s)))
-
-  -- there is none at all
-  pub judged-none : entriesIn s ≡ [] → isIndex s ≡ eqb (length s) 0
-  unfolding inOrder bytesIn isIndex
-  judged-none none = rw none (and-true (eqb 0 (length s)) ∙ go (ℕ-discrete (length s) 0))
-    where
-      go : Dec (length s ≡ 0) → eqb 0 (length s) ≡ eqb (length s) 0
-      go (yes e) = rw e
-      go (no h) = rw (ne-eqb 0 (length s) (λ e. h (sym e)), ne-eqb (length s) 0 h)

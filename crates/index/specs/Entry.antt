@@ -18,8 +18,8 @@ pub record Entry : Type 0 where
   pub day : ℕ
   pub leads : ℕ
 
--- its bits, the most significant first: how many bytes the identifier has in 6, the year in 16, the month in 4, the day in 5, the leads in
--- 8, and one 0. These are five bytes, and the identifier's bytes follow them
+-- its bits, the most significant first: in 6 how many bytes the identifier has, in 16 the year, in 4 the month, in 5 the day, in 8 the
+-- leads, and one 0. These are five bytes, and the identifier's bytes follow them
 unfoldable pub headBits : Entry → List ℕ
 headBits e =
     highFirst 6 (length (e .identifier))

@@ -30,6 +30,10 @@ dateIn d = d .year ∷ d .month ∷ d .day ∷ []
 abbrev pub beforeBy : List ℕ → Date → List ℕ → Date → Bool
 beforeBy a d b f = less a b || (same a b && less (dateIn d) (dateIn f))
 
+-- whole entries by the rules take up all bytes from a place on
+abbrev pub Whole : List ℕ → ℕ → Type 0
+Whole s at = at + bytesIn (entriesIn (drop at s)) ≡ length s
+
 -- a walk has gone from a place to another behind the entries that keep a rule
 pub record Passed (rule : Entry → Bool) (s : List ℕ) (at to : ℕ) : Type 0 where
   pub place : to ≡ at + bytesIn (front rule (entriesIn (drop at s)))

@@ -2,15 +2,16 @@
 // entries (refusal 26). Every byte string and every place is answered.
 ghost use mathlib.Core.Path.{_≡_};
 ghost use mathlib.Core.List.{[]};
-ghost use Prim.Native.Nat.{_+_, _≤_};
+ghost use mathlib.Core.Bool.{true};
+ghost use Prim.Native.Nat.{_+_, _≤_, min};
 ghost use lib.ListN.{length, take, drop};
 ghost use Rattle.bits.specs.Bits.{bitsIn};
 ghost use Rattle.bits.specs.InnerWindow.{Window};
 ghost use Rattle.fields.specs.Lookup.{refusalOf, partStart, partBytes};
-ghost use Rattle.index.specs.Entry.{dateRight, noneAt, entryAt};
+ghost use Rattle.index.specs.Entry.{dateRight, isEntry, noneAt, entryAt};
 ghost use Rattle.index.specs.Order.{less, dateOf, before};
 ghost use Rattle.index.specs.Index.{isIndex, indexRight, smaller, has, findPlace};
-ghost use Rattle.index.specs.InnerSteps.{headRight, seen, dateIn, beforeBy, Passed};
+ghost use Rattle.index.specs.InnerSteps.{headRight, seen, dateIn, beforeBy, Whole, Passed};
 use fields::Place;
 
 // An entry as a step shows it: its numbers, where its identifier is, and the place behind it; `more` is 0 where there is none.
@@ -36,12 +37,12 @@ pub struct Date {
 // The bytes of an entry in front of its identifier.
 pub const HEAD_SIZE: usize = 5;
 
-// A window on the first five bytes of an entry.
+// A window on the first five bytes of an entry. It is on eight where they are there, which are one load.
 fn head_at(s: &[u8], at: usize) -> u64
     requires { ⌜ at + 5 ≤ length (now s) ⌝ }
     ensures { λ r. ⌜ Window (bitsIn (take 5 (drop at (now (s .entry))))) r ⌝ }
 {
-    bits::window(wire::part_of(s, at, at + HEAD_SIZE), 0)
+    bits::window(wire::part_of(s, at, at + 8), 0)
 }
 
 // The numbers of these bytes keep their rules.
@@ -82,6 +83,51 @@ pub fn date_right(month: usize, day: usize) -> bool
     true
 }
 
+// A whole entry by the rules is at a place.
+fn is_entry(s: &[u8], at: usize) -> bool
+    ensures { λ r. ⌜ r ≡ isEntry (drop at (now (s .entry))) ⌝ }
+{
+    if s.len() <= at {
+        return false;
+    }
+    if s.len() - at < HEAD_SIZE {
+        return false;
+    }
+    let w = head_at(s, at);
+    let start = at + HEAD_SIZE;
+    let size = bits::after(w, 0, 6) as usize;
+    if s.len() - start < size {
+        return false;
+    }
+    if !header::no_nul(s, start, start + size) {
+        return false;
+    }
+    let month = bits::after(w, 22, 4) as usize;
+    let day = bits::after(w, 26, 5) as usize;
+    let leads = bits::after(w, 31, 8) as usize;
+    head_right(size, month, day, leads, bits::after(w, 39, 1) as usize)
+}
+
+// The entry at a place where one is. Where the bytes were judged, nothing is asked again.
+pub fn entry_at(s: &[u8], at: usize) -> IndexEntry
+    requires { ⌜ isEntry (drop at (now s)) ≡ true ⌝ }
+    ensures { λ r. ⌜ r ≡ entryAt (now (s .entry)) at ⌝ }
+{
+    let w = head_at(s, at);
+    let start = at + HEAD_SIZE;
+    let size = bits::after(w, 0, 6) as usize;
+    IndexEntry {
+        more: 1,
+        month: bits::after(w, 22, 4) as u8,
+        day: bits::after(w, 26, 5) as u8,
+        leads: bits::after(w, 31, 8) as u8,
+        year: bits::after(w, 6, 16) as u16,
+        start,
+        length: size,
+        next: start + size,
+    }
+}
+
 // No entry is at a place.
 fn none_at(at: usize) -> IndexEntry
     ensures { λ r. ⌜ r ≡ noneAt at ⌝ }
@@ -102,55 +148,10 @@ fn none_at(at: usize) -> IndexEntry
 pub fn step(s: &[u8], at: usize) -> IndexEntry
     ensures { λ r. ⌜ r ≡ entryAt (now (s .entry)) at ⌝ }
 {
-    if s.len() <= at {
+    if !is_entry(s, at) {
         return none_at(at);
     }
-    if s.len() - at < HEAD_SIZE {
-        return none_at(at);
-    }
-    let w = head_at(s, at);
-    let start = at + HEAD_SIZE;
-    let size = bits::after(w, 0, 6) as usize;
-    if s.len() - start < size {
-        return none_at(at);
-    }
-    let month = bits::after(w, 22, 4) as usize;
-    let day = bits::after(w, 26, 5) as usize;
-    let leads = bits::after(w, 31, 8) as usize;
-    if !head_right(size, month, day, leads, bits::after(w, 39, 1) as usize) {
-        return none_at(at);
-    }
-    let next = start + size;
-    if !header::no_nul(s, start, next) {
-        return none_at(at);
-    }
-    IndexEntry {
-        more: 1,
-        month: month as u8,
-        day: day as u8,
-        leads: leads as u8,
-        year: bits::after(w, 6, 16) as u16,
-        start,
-        length: size,
-        next,
-    }
-}
-
-// One identifier comes before another: it is smaller at the first byte at which they differ, or the other begins with it.
-fn is_less(a: &[u8], b: &[u8]) -> bool
-    ensures { λ r. ⌜ r ≡ less (now (a .entry)) (now (b .entry)) ⌝ }
-{
-    let mut i = 0;
-    while i < a.len() {
-        if b.len() <= i {
-            return false;
-        }
-        if a[i] != b[i] {
-            return a[i] < b[i];
-        }
-        i += 1;
-    }
-    a.len() < b.len()
+    entry_at(s, at)
 }
 
 // One day comes before another.
@@ -166,15 +167,30 @@ fn is_earlier(a: Date, b: Date) -> bool
     a.day < b.day
 }
 
-// One identifier and day come before others.
+// The smaller of two lengths.
+fn shorter(a: usize, b: usize) -> usize
+    ensures { λ r. ⌜ r ≡ min a b ⌝ }
+{
+    if a < b {
+        return a;
+    }
+    b
+}
+
+// One identifier and day come before others: the first bytes that differ decide, then which identifier ends first, then the days.
 pub fn is_before(a: &[u8], date: Date, b: &[u8], other: Date) -> bool
     ensures { λ r. ⌜ r ≡ beforeBy (now (a .entry)) date (now (b .entry)) other ⌝ }
 {
-    if is_less(a, b) {
-        return true;
+    let n = shorter(a.len(), b.len());
+    let mut i = 0;
+    while i < n {
+        if a[i] != b[i] {
+            return a[i] < b[i];
+        }
+        i += 1;
     }
-    if !fields::same_identifier(a, b) {
-        return false;
+    if a.len() != b.len() {
+        return a.len() < b.len();
     }
     is_earlier(date, other)
 }
@@ -199,25 +215,23 @@ fn stands_before(s: &[u8], e: IndexEntry, f: IndexEntry) -> bool
     is_before(a, date_of(e), b, date_of(f))
 }
 
-// Whole entries by the rules take up all bytes, in order.
+// Whole entries by the rules take up all bytes, in order. No entry comes before the first: none comes before no identifier.
 pub fn is_index(s: &[u8]) -> bool
     ensures { λ r. ⌜ r ≡ isIndex (now (s .entry)) ⌝ }
 {
-    let mut last = step(s, 0);
-    if last.more == 0 {
-        return s.len() == 0;
-    }
-    loop {
-        let end = last.next;
-        let e = step(s, end);
-        if e.more == 0 {
-            return end == s.len();
+    let mut last = none_at(0);
+    while last.next < s.len() {
+        let at = last.next;
+        if !is_entry(s, at) {
+            return false;
         }
+        let e = entry_at(s, at);
         if stands_before(s, e, last) {
             return false;
         }
         last = e;
     }
+    true
 }
 
 // 26: no more bytes are in use than were lent, and these are an index.
@@ -230,40 +244,39 @@ pub fn index_right(lent: &[u8], used: usize) -> bool
     is_index(&lent[..used])
 }
 
-// The place behind the entries of smaller identifiers, which are at the front.
+// The place in an index behind the entries of smaller identifiers, which are at the front.
 fn behind_smaller(s: &[u8], id: &[u8]) -> usize
+    requires { ⌜ Whole (now s) 0 ⌝ }
     ensures { λ r. ⌜ Passed (smaller (now (id .entry))) (now (s .entry)) 0 r ⌝ }
 {
     let mut at = 0;
-    loop {
-        let e = step(s, at);
-        if e.more == 0 {
-            return at;
-        }
-        if !is_less(wire::part_of(s, e.start, e.next), id) {
+    while at < s.len() {
+        let e = entry_at(s, at);
+        // of one day, so that the identifiers decide
+        let day = date_of(e);
+        if !is_before(wire::part_of(s, e.start, e.next), day, id, day) {
             return at;
         }
         at = e.next;
     }
+    at
 }
 
 // The place behind the entries of an identifier, from a place on.
 fn behind_same(s: &[u8], from: usize, id: &[u8]) -> usize
-    requires { ⌜ from ≤ length (now s) ⌝ }
+    requires { ⌜ Whole (now s) from ⌝ }
     ensures { λ r. ⌜ Passed (has (now (id .entry))) (now (s .entry)) from r ⌝ }
 {
     let mut at = from;
-    loop {
-        let e = step(s, at);
-        if e.more == 0 {
-            return at;
-        }
+    while at < s.len() {
+        let e = entry_at(s, at);
         let own = wire::part_of(s, e.start, e.next);
         if !fields::same_identifier(own, id) {
             return at;
         }
         at = e.next;
     }
+    at
 }
 
 // Where the entries of an identifier are in the index.

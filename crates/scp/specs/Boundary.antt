@@ -10,7 +10,7 @@ use Rattle.fields.specs.declared.Place.the-variants.{At, Refused}
 use Rattle.scp.specs.declared.ScpPart.{ScpPart}
 use Rattle.scp.specs.declared.ScpStep.{ScpStep}
 
--- a part of the record, or the refusal and zeros
+-- a part of what was lent, or the refusal and zeros
 abbrev pub partAt : Place → ScpPart
 partAt (At start size) = record { refusal = 0; start = start; length = size }
 partAt (Refused number) = record { refusal = number; start = 0; length = 0 }

@@ -8,7 +8,7 @@ use lib.ListN.{length}
 use Rattle.index.specs.Entry.{Entry}
 use Rattle.index.specs.Order.{before}
 use Rattle.index.specs.InnerSteps.{seen}
-use Rattle.index.proofs.Walk.{Shown, shown, unshown, Going, going-from, going-on, going-stop, going-end}
+use Rattle.index.proofs.Walk.{Shown, shown-at, Going, going-from, going-on, going-stop, going-end, whole-entry, none-past, going-whole}
 use Rattle.filing.specs.Filing.{placeFor}
 use Rattle.filing.specs.InnerFiling.{filed}
 use borrow.Author.Needs.{needs}
@@ -28,14 +28,8 @@ abbrev μ-loop : tie.MeasureT-loop
 loop-holds : tie.Need-loop-holds Inv-loop μ-loop
 loop-holds c = going-from _ _ _ (omega arith)
 
-step-requires : tie.Need-step-requires Inv-loop μ-loop
-step-requires c κs = search needs
-
-returns : tie.Need-returns Inv-loop μ-loop
-unfolding placeFor
-returns c =
-    let p = going-end _ _ _ _ (c .before .before .before .loop .inv) (unshown _ _ _ (c .before .before .step .ensures) (c .if1 .taken)) in
-    (p .place ∙ zero-add _, p .within)
+entry-at-requires : tie.Need-entry-at-requires Inv-loop μ-loop
+entry-at-requires c κs = whole-entry _ _ (going-whole _ _ _ _ (c .before .loop .inv) (c .before .before .before .before .pre)) (omega arith)
 
 part-of-requires : tie.Need-part-of-requires Inv-loop μ-loop
 part-of-requires c κs = search needs
@@ -46,21 +40,21 @@ date-of-requires c κs = search needs
 is-before-requires : tie.Need-is-before-requires Inv-loop μ-loop
 is-before-requires c κs = search needs
 
--- the entry that the step shows
-there : (c : tie.Else1 Inv-loop μ-loop) → Shown (c .before .before .before .before .before .before .args .s .now) (c .before .before .before .loop .at) (c .before .before .step .result)
-there c = shown _ _ _ (c .before .before .step .ensures) (c .if1 .left)
+-- the entry that is there
+there : (c : tie.After-entry-at Inv-loop μ-loop) → Shown (c .before .before .before .before .before .args .s .now) (c .before .before .loop .at) (c .entry-at .result)
+there c = shown-at _ _ _ (c .entry-at .ensures) (entry-at-requires (c .before) (c .entry-at .lifetimes))
 
 -- and what the call says of it
-asked : (c : tie.After-is-before Inv-loop μ-loop) → let a = c .before .before .before .before .before .before .before .before .before .args in
-    c .is-before .result ≡ before (filed (a .id .now) (a .date) 0) (seen (a .s .now) (c .before .before .before .before .before .step .result))
+asked : (c : tie.After-is-before Inv-loop μ-loop) → let a = c .before .before .before .before .before .before .before .before .args in
+    c .is-before .result ≡ before (filed (a .id .now) (a .date) 0) (seen (a .s .now) (c .before .before .before .entry-at .result))
 unfolding before
 asked c = rw (← c .before .before .part-of .ensures, ← c .before .date-of .ensures) (c .is-before .ensures)
 
-returns-2 : tie.Need-returns-2 Inv-loop μ-loop
+returns : tie.Need-returns Inv-loop μ-loop
 unfolding placeFor
-returns-2 c =
-    let greater = ap not (sym (asked (c .before)) ∙ c .if2 .taken) in
-    let p = going-stop _ _ _ _ _ (c .before .before .before .before .before .before .before .loop .inv) (there (c .before .before .before .before)) greater in
+returns c =
+    let greater = ap not (sym (asked (c .before)) ∙ c .if1 .taken) in
+    let p = going-stop _ _ _ _ _ (c .before .before .before .before .before .before .loop .inv) (there (c .before .before .before .before)) greater in
     (p .place ∙ zero-add _, p .within)
 
 loop-less : tie.Need-loop-less Inv-loop μ-loop
@@ -68,8 +62,15 @@ loop-less c = let w = there (c .before .before .before .before) in omega (arith,
 
 loop-again : tie.Need-loop-again Inv-loop μ-loop
 loop-again c =
-    let not-greater = ap not (sym (asked (c .before)) ∙ c .if2 .left) in
-    going-on _ _ _ _ _ (c .before .before .before .before .before .before .before .loop .inv) (there (c .before .before .before .before)) not-greater
+    let not-greater = ap not (sym (asked (c .before)) ∙ c .if1 .left) in
+    going-on _ _ _ _ _ (c .before .before .before .before .before .before .loop .inv) (there (c .before .before .before .before)) not-greater
+
+returns-2 : tie.Need-returns-2 Inv-loop μ-loop
+unfolding placeFor
+returns-2 c =
+    let l = c .before .loop in
+    let p = going-end _ _ _ _ (l .inv) (none-past (c .before .before .before .before .args .s .now) (l .at) (omega arith)) in
+    (p .place ∙ zero-add _, p .within)
 
 pub place-for-spec : {M : Type 1} → statement M
 place-for-spec =
@@ -78,11 +79,11 @@ place-for-spec =
     Inv-loop
     μ-loop
     loop-holds
-    step-requires
-    returns
+    entry-at-requires
     part-of-requires
     date-of-requires
     is-before-requires
-    returns-2
+    returns
     loop-less
-    loop-again)
+    loop-again
+    returns-2)

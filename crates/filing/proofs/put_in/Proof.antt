@@ -1,19 +1,16 @@
 -- What is in use behind the entry's place moves on, and the entry is written into the bytes that this leaves.
 use Prim.Native.Nat.{ℕ, _+_, _-_, _≤_, _<_}
-use mathlib.Core.Path.{_≡_, sym, ap, _∙_}
+use mathlib.Core.Path.{_≡_, ap, _∙_}
 use mathlib.Core.List.{List}
 use native.Mathlib.Omega.{arith}
 use lib.ListN.{length, take, drop, length-take, length-drop}
-use lib.Seq.{length-take-le}
-use Rattle.fields.specs.Recording.{identifierOf}
 use Rattle.fields.proofs.Recording.{identified}
-use Rattle.index.specs.declared.Date.{Date}
 use Rattle.index.specs.Entry.{entryBytes, entrySize}
 use Rattle.index.specs.Order.{before}
 use Rattle.index.specs.Index.{entriesIn}
-use Rattle.filing.specs.Filing.{leadsOf, entryOf, placeFor, putIn}
-use Rattle.filing.specs.InnerFiling.{filed, dateOn}
-use Rattle.filing.proofs.Laws.{index-used, Kept, all-kept, opened-none, date-room, movedOn, moved-length, put-between}
+use Rattle.index.proofs.Found.{whole-index}
+use Rattle.filing.specs.Filing.{entryOf, placeFor, putIn}
+use Rattle.filing.proofs.Laws.{Kept, all-kept, opened-none, date-room, moved-length, put-between}
 use borrow.Author.Needs.{needs}
 use Rattle.filing.proofs.put_in.Statement.{statement}
 use Rattle.filing.proofs.put_in.Tie as tie
@@ -34,8 +31,15 @@ add-size c = search needs
 part-of-requires : tie.Need-part-of-requires
 part-of-requires c κs = search needs
 
+-- the bytes in use
+used : (c : tie.After-part-of) → let a = c .before .before .before .before .before .before .args in c .part-of .result .now ≡ take (a .used) (a .lent .now)
+used c =
+    let a = c .before .before .before .before .before .before .args in
+    let all : a .used - 0 ≡ a .used = omega arith in
+    c .part-of .ensures ∙ ap (λ (n : ℕ). take n (a .lent .now)) all
+
 place-for-requires : tie.Need-place-for-requires
-place-for-requires c κs = search needs
+place-for-requires c κs = rw (used c) (whole-index _ _ (keeps (c .before .before .before .before .before .before) .index))
 
 -- the entry's size is that of the definition, and there is room for it
 size : (c : tie.After-identifier-of) → 5 + length (c .identifier-of .result .now) ≡ entrySize (entryOf (c .before .before .before .args .rec .now))
@@ -57,11 +61,8 @@ place-is : (c : tie.After-place-for) → let a = c .before .before .before .befo
     c .place-for .result ≡ placeFor (entryOf (a .rec .now)) (entriesIn (take (a .used) (a .lent .now)))
 unfolding placeFor before entryOf
 place-is c =
-    let a = c .before .before .before .before .before .before .before .args in
-    let all : a .used - 0 ≡ a .used = omega arith in
-    let s = c .before .part-of .ensures ∙ ap (λ (n : ℕ). take n (a .lent .now)) all in
     c .place-for .ensures .0
-    ∙ rw (s, c .before .before .before .before .identifier-of .ensures, c .before .before .before .date-of .ensures)
+    ∙ rw (used (c .before), c .before .before .before .before .identifier-of .ensures, c .before .before .before .date-of .ensures)
 
 add-end : tie.Need-add-end
 add-end c = omega (arith, place-fits c, room (c .before .before .before .before))

@@ -1,12 +1,13 @@
 -- At every turn the entries passed keep the rule; the first that breaks it, or the end, is where the walk stops.
 use Prim.Native.Nat.{_-_}
-use mathlib.Core.Path.{_≡_}
+use mathlib.Core.Path.{_≡_, _∙_}
 use native.Mathlib.Omega.{arith}
 use lib.ListN.{length}
 use Rattle.wire.proofs.Tests.{kept, broken}
 use Rattle.index.specs.Index.{smaller}
-use Rattle.index.specs.InnerSteps.{seen}
-use Rattle.index.proofs.Walk.{Shown, shown, unshown, Going, going-from, going-on, going-stop, going-end}
+use Rattle.index.specs.InnerSteps.{seen, dateIn}
+use Rattle.index.proofs.Walk.{Shown, shown-at, Going, going-from, going-on, going-stop, going-end, whole-entry, none-past, going-whole}
+use Rattle.index.proofs.Less.{decided-alone}
 use borrow.Author.Needs.{needs}
 use Rattle.index.proofs.behind_smaller.Statement.{statement}
 use Rattle.index.proofs.behind_smaller.Tie as tie
@@ -20,35 +21,40 @@ abbrev μ-loop : tie.MeasureT-loop
 loop-holds : tie.Need-loop-holds Inv-loop μ-loop
 loop-holds c = going-from _ _ _ (omega arith)
 
-step-requires : tie.Need-step-requires Inv-loop μ-loop
-step-requires c κs = search needs
+entry-at-requires : tie.Need-entry-at-requires Inv-loop μ-loop
+entry-at-requires c κs = whole-entry _ _ (going-whole _ _ _ _ (c .before .loop .inv) (c .before .before .before .before .pre)) (omega arith)
 
-returns : tie.Need-returns Inv-loop μ-loop
-returns c = going-end _ _ _ _ (c .before .before .before .loop .inv) (unshown _ _ _ (c .before .before .step .ensures) (c .if1 .taken))
+date-of-requires : tie.Need-date-of-requires Inv-loop μ-loop
+date-of-requires c κs = search needs
 
 part-of-requires : tie.Need-part-of-requires Inv-loop μ-loop
 part-of-requires c κs = search needs
 
-is-less-requires : tie.Need-is-less-requires Inv-loop μ-loop
-is-less-requires c κs = search needs
+is-before-requires : tie.Need-is-before-requires Inv-loop μ-loop
+is-before-requires c κs = search needs
 
--- the entry that the step shows
-there : (c : tie.Else1 Inv-loop μ-loop) → Shown (c .before .before .before .before .before .before .args .s .now) (c .before .before .before .loop .at) (c .before .before .step .result)
-there c = shown _ _ _ (c .before .before .step .ensures) (c .if1 .left)
+-- the entry that is there
+there : (c : tie.After-entry-at Inv-loop μ-loop) → Shown (c .before .before .before .before .before .args .s .now) (c .before .before .loop .at) (c .entry-at .result)
+there c = shown-at _ _ _ (c .entry-at .ensures) (entry-at-requires (c .before) (c .entry-at .lifetimes))
 
 -- and what the call says of it
-asked : (c : tie.After-is-less Inv-loop μ-loop)
-    → c .is-less .result ≡ smaller (c .before .before .before .before .before .before .before .before .args .id .now) (seen (c .before .before .before .before .before .before .before .before .args .s .now) (c .before .before .before .before .step .result))
-asked c = rw (← c .before .part-of .ensures) (c .is-less .ensures)
+asked : (c : tie.After-is-before Inv-loop μ-loop) → let a = c .before .before .before .before .before .before .before .before .args in
+    c .is-before .result ≡ smaller (a .id .now) (seen (a .s .now) (c .before .before .before .entry-at .result))
+asked c =
+    let a = c .before .before .before .before .before .before .before .before .args in
+    rw (← c .before .part-of .ensures) (c .is-before .ensures ∙ decided-alone _ (a .id .now) (dateIn (c .before .before .date-of .result)))
 
-returns-2 : tie.Need-returns-2 Inv-loop μ-loop
-returns-2 c = going-stop _ _ _ _ _ (c .before .before .before .before .before .before .loop .inv) (there (c .before .before .before)) (broken (asked (c .before)) (c .if2 .taken))
+returns : tie.Need-returns Inv-loop μ-loop
+returns c = going-stop _ _ _ _ _ (c .before .before .before .before .before .before .loop .inv) (there (c .before .before .before .before)) (broken (asked (c .before)) (c .if1 .taken))
 
 loop-less : tie.Need-loop-less Inv-loop μ-loop
-loop-less c = let w = there (c .before .before .before) in omega (arith, w .size, w .within)
+loop-less c = let w = there (c .before .before .before .before) in omega (arith, w .size, w .within)
 
 loop-again : tie.Need-loop-again Inv-loop μ-loop
-loop-again c = going-on _ _ _ _ _ (c .before .before .before .before .before .before .loop .inv) (there (c .before .before .before)) (kept (asked (c .before)) (c .if2 .left))
+loop-again c = going-on _ _ _ _ _ (c .before .before .before .before .before .before .loop .inv) (there (c .before .before .before .before)) (kept (asked (c .before)) (c .if1 .left))
+
+returns-2 : tie.Need-returns-2 Inv-loop μ-loop
+returns-2 c = let l = c .before .loop in going-end _ _ _ _ (l .inv) (none-past (c .before .before .before .before .args .s .now) (l .at) (omega arith))
 
 pub behind-smaller-spec : {M : Type 1} → statement M
 behind-smaller-spec =
@@ -57,10 +63,11 @@ behind-smaller-spec =
     Inv-loop
     μ-loop
     loop-holds
-    step-requires
-    returns
+    entry-at-requires
+    date-of-requires
     part-of-requires
-    is-less-requires
-    returns-2
+    is-before-requires
+    returns
     loop-less
-    loop-again)
+    loop-again
+    returns-2)

@@ -1,13 +1,13 @@
 -- Where the bytes in use are no index, that is refused; else two walks find the part.
 use Prim.Native.Nat.{ℕ, _-_}
 use mathlib.Core.Path.{_≡_, sym, ap, _∙_}
-use mathlib.Core.Bool.{false}
+use mathlib.Core.Bool.{true, false}
 use mathlib.Core.List.{List}
 use native.Mathlib.Omega.{arith}
 use lib.ListN.{take}
 use Rattle.wire.proofs.Tests.{kept, broken}
 use Rattle.index.specs.Index.{entriesIn, indexRight, partOrNone, found, findPlace}
-use Rattle.index.proofs.Found.{walks-find, part-some, part-none}
+use Rattle.index.proofs.Found.{walks-find, whole-index, whole-passed, part-some, part-none}
 use borrow.Author.Needs.{needs}
 use Rattle.index.proofs.find_place.Statement.{statement}
 use Rattle.index.proofs.find_place.Tie as tie
@@ -25,11 +25,22 @@ returns c =
 part-of-requires : tie.Need-part-of-requires
 part-of-requires c κs = search needs
 
+-- the bytes in use
+used : (c : tie.After-part-of) → let a = c .before .before .before .before .before .args in c .part-of .result .now ≡ take (a .used) (a .lent .now)
+used c =
+    let a = c .before .before .before .before .before .args in
+    let all : a .used - 0 ≡ a .used = omega arith in
+    c .part-of .ensures ∙ ap (λ (n : ℕ). take n (a .lent .now)) all
+
+-- are an index
+right : (c : tie.After-part-of) → let a = c .before .before .before .before .before .args in indexRight (a .lent .now) (a .used) ≡ true
+right c = kept (c .before .before .index-right .ensures) (c .before .if1 .left)
+
 behind-smaller-requires : tie.Need-behind-smaller-requires
-behind-smaller-requires c κs = search needs
+behind-smaller-requires c κs = rw (used c) (whole-index _ _ (right c))
 
 behind-same-requires : tie.Need-behind-same-requires
-behind-same-requires c κs = search needs
+behind-same-requires c κs = whole-passed _ _ _ _ (c .behind-smaller .ensures) (behind-smaller-requires (c .before) (c .behind-smaller .lifetimes))
 
 -- what the walks find is the part that is looked for
 walked : (c : tie.After-behind-same) → let a = c .before .before .before .before .before .before .before .args in
@@ -37,11 +48,9 @@ walked : (c : tie.After-behind-same) → let a = c .before .before .before .befo
 unfolding findPlace
 walked c =
     let a = c .before .before .before .before .before .before .before .args in
-    let all : a .used - 0 ≡ a .used = omega arith in
-    let s = c .before .before .part-of .ensures ∙ ap (λ (n : ℕ). take n (a .lent .now)) all in
     let id = a .id .now in
-    rw (kept (c .before .before .before .before .index-right .ensures) (c .before .before .before .if1 .left))
-    (ap (λ (l : List ℕ). found id (entriesIn l)) (sym s)
+    rw (right (c .before .before))
+    (ap (λ (l : List ℕ). found id (entriesIn l)) (sym (used (c .before .before)))
     ∙ walks-find id (c .before .before .part-of .result .now) _ _ (c .before .behind-smaller .ensures) (c .behind-same .ensures))
 
 returns-2 : tie.Need-returns-2
