@@ -76,6 +76,7 @@ shown-there s at h =
       within = omega (arith, identifier-length t fits, length-drop at s);
     }
 
+-- so does a struct that is known to be that step's
 pub shown-at : (s : List ℕ) (at : ℕ) (e : IndexEntry) → e ≡ entryAt s at → isEntry (drop at s) ≡ true → Shown s at e
 unfolding entryAt
 shown-at s at e is h = rw (is, h) (shown-there s at h)
@@ -149,7 +150,7 @@ whole-entry s at w h = go (isEntry (drop at s)) refl
 pub none-past : (s : List ℕ) (at : ℕ) → length s ≤ at → entriesIn (drop at s) ≡ []
 none-past s at h = none-there s at (entry-cut (drop at s) (omega (arith, length-drop at s)))
 
--- they do so wherever a walk has reached
+-- entries take up all bytes wherever a walk has reached
 pub going-whole : (rule : Entry → Bool) (s : List ℕ) (from at : ℕ) → Going rule s from at → Whole s from → Whole s at
 going-whole rule s from at g w =
     omega (arith, g .place, w, ap bytesIn (g .rest), bytes-split rule (entriesIn (drop at s)), bytes-split rule (entriesIn (drop from s)))

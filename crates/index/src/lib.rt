@@ -37,7 +37,7 @@ pub struct Date {
 // The bytes of an entry in front of its identifier.
 pub const HEAD_SIZE: usize = 5;
 
-// A window on the first five bytes of an entry. It is on eight where they are there, which are one load.
+// A window on the first five bytes of an entry. It is on eight where they are there: only near the end the window is put together in a loop.
 fn head_at(s: &[u8], at: usize) -> u64
     requires { ⌜ at + 5 ≤ length (now s) ⌝ }
     ensures { λ r. ⌜ Window (bitsIn (take 5 (drop at (now (s .entry))))) r ⌝ }
@@ -108,7 +108,7 @@ fn is_entry(s: &[u8], at: usize) -> bool
     head_right(size, month, day, leads, bits::after(w, 39, 1) as usize)
 }
 
-// The entry at a place where one is. Where the bytes were judged, nothing is asked again.
+// The entry at a place where one is: in bytes that were judged, nothing is asked again.
 pub fn entry_at(s: &[u8], at: usize) -> IndexEntry
     requires { ⌜ isEntry (drop at (now s)) ≡ true ⌝ }
     ensures { λ r. ⌜ r ≡ entryAt (now (s .entry)) at ⌝ }
@@ -215,7 +215,7 @@ fn stands_before(s: &[u8], e: IndexEntry, f: IndexEntry) -> bool
     is_before(a, date_of(e), b, date_of(f))
 }
 
-// Whole entries by the rules take up all bytes, in order. No entry comes before the first: none comes before no identifier.
+// Whole entries by the rules take up all bytes, in order. `last` starts as no entry: its identifier is empty, and nothing comes before that.
 pub fn is_index(s: &[u8]) -> bool
     ensures { λ r. ⌜ r ≡ isIndex (now (s .entry)) ⌝ }
 {
