@@ -16,7 +16,7 @@ use Rattle.packing.specs.Packing.{packed}
 use Rattle.packing.proofs.Laws.{Bytes, bytes-take, packed-read, packed-whole}
 use Rattle.index.specs.Entry.{Entry, headBits, entryBytes, headSize, entrySize, headNumber, entryIn, zeroBit, dateRight, entryRight, isEntry}
 use Rattle.index.specs.Index.{indexBytes, bytesIn, entriesFrom, entriesIn, isIndex}
-use Rattle.index.proofs.Heads.{head-length, head-bits, head-small, identifier-length, entry-cut, entry-fits}
+use Rattle.index.proofs.Heads.{head-length, head-bits, head-small, identifier-length, entry-cut, entry-fits, entry-kept}
 use Rattle.index.proofs.Walk.{entries-step}
 use Rattle.afresh.specs.Afresh.{areBytes, yearFits}
 
@@ -177,20 +177,13 @@ module _ (s : List ℕ) (h : isEntry s ≡ true) where
   unfolding headNumber
   part-bits from width g = own-bits _ width (part-small from width) (part-length from width g)
 
-  -- the last is 0
-  last-zero : zeroBit s ≡ 0
-  unfolding isEntry
-  last-zero =
-      let a = and-eq-true-iff (leb (headSize + headNumber s 0 6) (length s)) _ .0 h in
-      eqb-true (zeroBit s) 0 (and-eq-true-iff (eqb (zeroBit s) 0) _ .0 (a .1) .0)
-
-  -- so it is the one that an entry's bits end with
+  -- the last is 0, so it is the one that an entry's bits end with
   last-bits : 0 ∷ [] ≡ drop 39 (bitsIn (take headSize s))
   unfolding highFirst
   last-bits =
       let l = drop 39 (bitsIn (take headSize s)) in
       let one : length l ≤ 1 = rw length-drop (omega (arith, bits-length)) in
-      ap (highFirst 1) (sym last-zero) ∙ part-bits 39 1 (omega arith) ∙ take-all 1 l one
+      ap (highFirst 1) (sym (entry-kept s h .0)) ∙ part-bits 39 1 (omega arith) ∙ take-all 1 l one
 
   -- together they are those of the entry's numbers
   head-own : headBits (entryIn s) ≡ bitsIn (take headSize s)
@@ -263,11 +256,8 @@ entries-keep rule front (suc n) s = go (isEntry s) refl (entries-keep rule front
 
 -- the rules of an entry
 pub entries-right : (s : List ℕ) → every entryRight (entriesIn s) ≡ true
-unfolding entriesIn isEntry
-entries-right s =
-    entries-keep entryRight
-    (λ t h. and-eq-true-iff (eqb (zeroBit t) 0) _ .0 (and-eq-true-iff (leb (headSize + headNumber t 0 6) (length t)) _ .0 h .1) .1)
-    (length s) s
+unfolding entriesIn
+entries-right s = entries-keep entryRight (λ t h. entry-kept t h .1) (length s) s
 
 -- and that its year has room
 pub years-fit : (s : List ℕ) → every yearFits (entriesIn s) ≡ true

@@ -56,7 +56,7 @@ part-within a b start size h = go (eqb b 0) h
 -- what is found lies within the lent index
 pub found-inside : (lent : List ℕ) (used : ℕ) (id : List ℕ) (start size : ℕ) → findPlace lent used id ≡ At start size
     → start + size ≤ length lent
-unfolding findPlace indexRight isIndex found
+unfolding findPlace found
 found-inside lent used id start size h = go (indexRight lent used) refl h
   where
     go : (b : Bool) → indexRight lent used ≡ b → cond b (found id (entriesIn (take used lent))) (Refused 26) ≡ At start size
@@ -64,9 +64,7 @@ found-inside lent used id start size h = go (indexRight lent used) refl h
     go true right e =
         let s = take used lent in
         let es = entriesIn s in
-        let w = and-eq-true-iff (leb used (length lent)) (isIndex s) .0 right in
-        let n = eqb-true (bytesIn es) (length s) (and-eq-true-iff (eqb (bytesIn es) (length s)) (inOrder es) .0 (w .1) .0) in
         let rest = behind (smaller id) es in
         let p = part-within (bytesIn (front (smaller id) es)) (bytesIn (front (has id) rest)) start size e in
-        omega (arith, p, n, bytes-split (smaller id) es, bytes-split (has id) rest, length-take used lent)
+        omega (arith, p, whole-index lent used right, bytes-split (smaller id) es, bytes-split (has id) rest, length-take used lent)
     go false right e = unlike cc

@@ -8,7 +8,7 @@ use native.Mathlib.Omega.{arith}
 use lib.Dec.{leb, eqb}
 use lib.ListN.{length, take, drop, length-append, length-drop, take-append-drop}
 use lib.Seq.{length-take-le, take-take, drop-drop}
-use borrow.Author.Tests.{le-leb, lt-leb, leb-true}
+use borrow.Author.Tests.{le-leb, lt-leb, leb-true, eqb-true}
 use Rattle.wire.specs.Bounds.{mostLeads}
 use Rattle.wire.specs.Numbers.{byteAt}
 use Rattle.wire.specs.RuleWords.{allIn, every}
@@ -115,6 +115,14 @@ unfolding isEntry
 entry-fits t h =
     leb-true (headSize + headNumber t 0 6) (length t)
     (and-eq-true-iff (leb (headSize + headNumber t 0 6) (length t)) (eqb (zeroBit t) 0 && entryRight (entryIn t)) .0 h .0)
+
+-- its one bit is 0, and it keeps its rules
+pub entry-kept : (t : List ℕ) → isEntry t ≡ true → (zeroBit t ≡ 0) × (entryRight (entryIn t) ≡ true)
+unfolding isEntry
+entry-kept t h =
+    let a = and-eq-true-iff (leb (headSize + headNumber t 0 6) (length t)) _ .0 h in
+    let b = and-eq-true-iff (eqb (zeroBit t) 0) _ .0 (a .1) in
+    (eqb-true (zeroBit t) 0 (b .0), b .1)
 
 -- what a step shows where there is no entry, and where there is one
 pub step-none : (s : List ℕ) (at : ℕ) → isEntry (drop at s) ≡ false → noneAt at ≡ entryAt s at

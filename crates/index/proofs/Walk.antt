@@ -12,11 +12,11 @@ use lib.Seq.{drop-drop}
 use borrow.Author.Tests.{leb-true}
 use Rattle.index.specs.declared.IndexEntry.{IndexEntry}
 use Rattle.fields.specs.Identifier.{same}
-use Rattle.index.specs.Entry.{Entry, headSize, entrySize, headNumber, entryIn, zeroBit, entryRight, isEntry, shownAt, noneAt, entryAt}
+use Rattle.index.specs.Entry.{Entry, headSize, entrySize, headNumber, entryIn, entryRight, isEntry, shownAt, noneAt, entryAt}
 use Rattle.index.specs.Order.{less, dateOf, before, orderedFrom, inOrder}
 use Rattle.index.specs.Index.{bytesIn, entriesFrom, entriesIn, isIndex, front, behind}
 use Rattle.index.specs.InnerSteps.{seen, Whole, Passed}
-use Rattle.index.proofs.Heads.{identifier-length, entry-cut, entry-fits}
+use Rattle.index.proofs.Heads.{identifier-length, entry-cut, entry-fits, entry-kept}
 
 -- ---- all entries, whatever the bound on the steps
 
@@ -165,11 +165,9 @@ pub record Judged (s : List ℕ) (e : IndexEntry) : Type 0 where
 
 -- an entry at the front has an identifier
 named : (s : List ℕ) → isEntry s ≡ true → 1 ≤ length (entryIn s .identifier)
-unfolding isEntry entryRight
+unfolding entryRight
 named s h =
-    let a = and-eq-true-iff (leb (headSize + headNumber s 0 6) (length s)) _ .0 h in
-    let e = and-eq-true-iff (eqb (zeroBit s) 0) _ .0 (a .1) in
-    leb-true 1 (length (entryIn s .identifier)) (and-eq-true-iff (leb 1 (length (entryIn s .identifier))) _ .0 (e .1) .0)
+    let n = length (entryIn s .identifier) in leb-true 1 n (and-eq-true-iff (leb 1 n) _ .0 (entry-kept s h .1) .0)
 
 -- and does not come before one that has none
 not-before-none : (e f : Entry) → 1 ≤ length (e .identifier) → f .identifier ≡ [] → before e f ≡ false

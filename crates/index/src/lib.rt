@@ -37,12 +37,15 @@ pub struct Date {
 // The bytes of an entry in front of its identifier.
 pub const HEAD_SIZE: usize = 5;
 
-// A window on the first five bytes of an entry. It is on eight where they are there: only near the end the window is put together in a loop.
+// The bytes that a window is made of at once, where they are there; near the end it is put together in a loop.
+const WINDOW_SIZE: usize = 8;
+
+// A window on the first five bytes of an entry.
 fn head_at(s: &[u8], at: usize) -> u64
     requires { ⌜ at + 5 ≤ length (now s) ⌝ }
     ensures { λ r. ⌜ Window (bitsIn (take 5 (drop at (now (s .entry))))) r ⌝ }
 {
-    bits::window(wire::part_of(s, at, at + 8), 0)
+    bits::window(wire::part_of(s, at, at + WINDOW_SIZE), 0)
 }
 
 // The numbers of these bytes keep their rules.

@@ -7,11 +7,15 @@ use native.Mathlib.Nat.{add-assoc}
 use native.Mathlib.Omega.{arith}
 use borrow.Author.Tests.{leb-true, le-leb}
 use lib.Dec.{leb}
-use lib.ListN.{length, drop, length-append, length-drop, List·getD-append}
+use lib.ListN.{length, take, drop, length-append, length-drop, List·getD-append}
 use lib.Seq.{getD-append-add, drop-append-add, drop-append-le, take-append-le, drop-at, take-at}
 use Rattle.wire.specs.Numbers.{byteAt, numberAt, bytesOf, part}
 use Rattle.wire.specs.RuleWords.{each, endsBy}
 use Rattle.wire.proofs.Laws.{written-read}
+
+-- what is cut out from the first place on
+pub part-front : (s : List ℕ) (n : ℕ) → part s 0 n ≡ take n s
+part-front s n = let e : n - 0 ≡ n = omega arith in rw e
 
 -- a part lies in r from a place on
 pub record Stands (r : List ℕ) (start : ℕ) (x : List ℕ) : Type 0 where

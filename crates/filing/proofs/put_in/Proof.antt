@@ -4,6 +4,7 @@ use mathlib.Core.Path.{_≡_, ap, _∙_}
 use mathlib.Core.List.{List}
 use native.Mathlib.Omega.{arith}
 use lib.ListN.{length, take, drop, length-take, length-drop}
+use Rattle.wire.proofs.Places.{part-front}
 use Rattle.fields.proofs.Recording.{identified}
 use Rattle.index.specs.Entry.{entryBytes, entrySize}
 use Rattle.index.specs.Order.{before}
@@ -34,9 +35,7 @@ part-of-requires c κs = search needs
 -- the bytes in use
 used : (c : tie.After-part-of) → let a = c .before .before .before .before .before .before .args in c .part-of .result .now ≡ take (a .used) (a .lent .now)
 used c =
-    let a = c .before .before .before .before .before .before .args in
-    let all : a .used - 0 ≡ a .used = omega arith in
-    c .part-of .ensures ∙ ap (λ (n : ℕ). take n (a .lent .now)) all
+    let a = c .before .before .before .before .before .before .args in c .part-of .ensures ∙ part-front (a .lent .now) (a .used)
 
 place-for-requires : tie.Need-place-for-requires
 place-for-requires c κs = rw (used c) (whole-index _ _ (keeps (c .before .before .before .before .before .before) .index))

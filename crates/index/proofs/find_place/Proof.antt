@@ -5,6 +5,7 @@ use mathlib.Core.Bool.{true, false}
 use mathlib.Core.List.{List}
 use native.Mathlib.Omega.{arith}
 use lib.ListN.{take}
+use Rattle.wire.proofs.Places.{part-front}
 use Rattle.wire.proofs.Tests.{kept, broken}
 use Rattle.index.specs.Index.{entriesIn, indexRight, partOrNone, found, findPlace}
 use Rattle.index.proofs.Found.{walks-find, whole-index, whole-passed, part-some, part-none}
@@ -28,9 +29,7 @@ part-of-requires c κs = search needs
 -- the bytes in use
 used : (c : tie.After-part-of) → let a = c .before .before .before .before .before .args in c .part-of .result .now ≡ take (a .used) (a .lent .now)
 used c =
-    let a = c .before .before .before .before .before .args in
-    let all : a .used - 0 ≡ a .used = omega arith in
-    c .part-of .ensures ∙ ap (λ (n : ℕ). take n (a .lent .now)) all
+    let a = c .before .before .before .before .before .args in c .part-of .ensures ∙ part-front (a .lent .now) (a .used)
 
 -- are an index
 right : (c : tie.After-part-of) → let a = c .before .before .before .before .before .args in indexRight (a .lent .now) (a .used) ≡ true
