@@ -39,7 +39,7 @@ class Header(Case):
             name: (type_named(answer), [type_given(one) for one in given.split(",")]) for answer, name, given in functions
         }
         self.assertEqual(_library.PROTOTYPES, expected)
-        self.assertEqual(len(functions), 14)
+        self.assertEqual(len(functions), 15)
 
     def test_bounds(self):
         bounds = re.findall(r"#define (SCP_\w+) (\d+)$", HEADER, re.MULTILINE)

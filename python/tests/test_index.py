@@ -1,4 +1,4 @@
-"""The index: its bytes and their order, lookups, every refusal, and what can be given."""
+"""The index: its bytes and their order, merging, lookups, every refusal, and what can be given."""
 
 from __future__ import annotations
 
@@ -86,6 +86,92 @@ class Adding(Case):
             for kind in [tigmavresh.open(data), bytearray(data), memoryview(data), array("B", data), view]:
                 self.assertEqual(bytes(index_of(kind)), expected)
             self.assertEqual(data, sample(name), "unchanged")
+
+
+class Merging(Case):
+    def setUp(self):
+        self.a = index_of(made(b"007", leads=2), made(b"8"), made(b"00"))
+        self.b = index_of(made(b"007", leads=3), made(b"0071"), made(b"007", (2023, 1, 1)), made(b"70"))
+
+    def test_the_entries_of_both(self):
+        before = bytes(self.b)
+        self.assertEqual(len(self.a), 3)
+        self.a.merge(self.b)
+        expected = [
+            (b"00", 2024, 3, 14, 1),
+            (b"007", 2023, 1, 1, 1),
+            (b"007", 2024, 3, 14, 2),
+            (b"007", 2024, 3, 14, 3),
+            (b"0071", 2024, 3, 14, 1),
+            (b"70", 2024, 3, 14, 1),
+            (b"8", 2024, 3, 14, 1),
+        ]
+        self.assertEqual((list(self.a), len(self.a)), (expected, 7))
+        self.assertEqual(bytes(self.b), before, "unchanged")
+        self.b.add(made(b"9"))
+        self.assertEqual(len(self.a), 7)
+
+    def test_this_index_comes_first(self):
+        self.b.merge(self.a)
+        self.assertEqual([entry.leads for entry in self.b.find(b"007")], [1, 3, 2])
+
+    def test_empty_ones(self):
+        before = bytes(self.a)
+        self.a.merge(Index())
+        self.assertEqual(bytes(self.a), before)
+        index = Index()
+        index.merge(self.a)
+        self.assertEqual(bytes(index), before)
+        index = Index()
+        index.merge(b"")
+        self.assertEqual((bytes(index), len(index)), (b"", 0))
+
+    def test_an_index_with_itself(self):
+        entries = list(self.a)
+        self.a.merge(self.a)
+        self.assertEqual(list(self.a), sorted(entries * 2))
+
+    def test_adding_goes_on(self):
+        self.a.merge(self.b)
+        for number in range(20):
+            self.a.add(made(b"\xff" * 63, leads=number + 1))
+        self.assertEqual([entry.leads for entry in self.a.find(b"\xff" * 63)], list(range(1, 21)))
+        self.assertEqual(len(self.a), 27)
+
+    def test_runs_are_what_is_added_one_by_one(self):
+        rng = random.Random(14)
+        records = []
+        for number in range(40):
+            identifier = bytes(rng.choice(b"017") for _ in range(rng.randint(1, 3)))
+            records.append(made(identifier, (2024, rng.randint(1, 2), 1), number % 32 + 1))
+        expected = bytes(index_of(*records))
+        for _ in range(10):
+            places = sorted(rng.randint(0, len(records)) for _ in range(4))
+            runs = [index_of(*records[i:j]) for i, j in zip([0, *places], [*places, len(records)])]
+            while len(runs) > 1:
+                at = rng.randrange(len(runs) - 1)
+                runs[at].merge(runs.pop(at + 1))
+            self.assertEqual(bytes(runs[0]), expected, places)
+
+    def test_an_index_is_given_as_bytes_or_as_it_is(self):
+        data = bytes(self.b)
+        view = memoryview(b"".join(bytes([byte, 0]) for byte in data))[::2]
+        merged = []
+        for kind in [self.b, data, bytearray(data), memoryview(data), array("B", data), view]:
+            index = Index(bytes(self.a))
+            index.merge(kind)
+            merged.append(bytes(index))
+            self.assertEqual(bytes(kind), data, "unchanged")
+        self.assertEqual(set(merged), {merged[0]})
+
+    def test_what_is_no_index(self):
+        before, sound = bytes(self.a), bytes(self.b)
+        for wrong in [b"\0", sound[:-1], sound[1:], sound + b"\0", bytes(index_of(sample("7"))) + ENTRY, sample("007")]:
+            self.refused(Rule.INDEX, self.a.merge, wrong)
+        self.assertEqual((bytes(self.a), len(self.a)), (before, 3), "unchanged")
+        for wrong in [str(SAMPLES), SAMPLES, 7, None, [ENTRY], tigmavresh.open(sample("007"))]:
+            self.assertRaises(TypeError, self.a.merge, wrong)
+        self.assertEqual((bytes(self.a), len(self.a)), (before, 3), "unchanged")
 
 
 class Finding(Case):
@@ -182,3 +268,18 @@ class Sharing(Case):
         expected = sorted(b"%d-%d" % (thread, number) for thread in range(3) for number in numbers)
         self.assertEqual([entry.identifier for entry in index], expected)
         self.assertEqual(found, [1] * len(expected))
+
+    def test_threads_merge_indexes_into_each_other(self):
+        one, other = index_of(made(b"1")), index_of(made(b"2"))
+
+        def merge(into: Index, index: Index) -> None:
+            for _ in range(5):
+                into.merge(index)
+
+        threads = [threading.Thread(target=merge, args=args, daemon=True) for args in [(one, other), (other, one)]]
+        for thread in threads:
+            thread.start()
+        for thread in threads:
+            thread.join(60)
+            self.assertFalse(thread.is_alive(), "it waits for the other one")
+        self.assertEqual({entry.identifier for index in (one, other) for entry in index}, {b"1", b"2"})

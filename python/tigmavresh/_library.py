@@ -106,6 +106,7 @@ PROTOTYPES = {
     "scp_index_add": (ScpIndexed, LENT + [c_size_t] + LENT),
     "scp_index_find": (ScpPart, LENT + [c_size_t] + LENT),
     "scp_index_step": (ScpIndexEntry, LENT + [c_size_t]),
+    "scp_index_merge": (ScpIndexed, LENT + LENT + LENT),
 }
 
 

@@ -38,8 +38,8 @@ class Index:
     Entries are sorted by the identifier's bytes, a shorter one before a longer one that begins with it, then by date; equal
     ones are in order of arrival. Iterating over an index shows them as they were when that began, and `len` counts them.
 
-    Adding and finding judge all of it, and take longer the more entries there are. Threads may share an index: it takes
-    their calls one after another.
+    Adding, merging and finding judge all of it, and take longer the more entries there are. For many records, add them to
+    several indexes and merge these. Threads may share an index: it takes their calls one after another.
     """
 
     def __init__(self, data: Bytes = b"") -> None:
@@ -80,6 +80,19 @@ class Index:
             self._used = indexed.used
             if self._count is not None:
                 self._count += 1
+
+    def merge(self, other: Union[Index, Bytes]) -> None:
+        """Merges another index, or the bytes of one, into this one: of equal entries, those of this index come first.
+
+        This index is then as if the other's records had been added to it. The other one stays as it is. Bytes that are no index
+        are refused with 26; this index is then as it was.
+        """
+        lent = bytes(other) if isinstance(other, Index) else bytes_of(other)
+        with self._lock:
+            room = ctypes.create_string_buffer(self._used + len(lent) + SCP_INDEX_ENTRY_MAX)
+            indexed = scp.scp_index_merge(self._room, self._used, lent, len(lent), room, len(room))
+            check(indexed.refusal)
+            self._room, self._used, self._count = room, indexed.used, None
 
     def find(self, identifier: Bytes) -> list[IndexEntry]:
         """All entries of an identifier and no others, in their order; there may be none.

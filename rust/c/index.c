@@ -1,6 +1,6 @@
 /*
- * index.c: the index: adding records, looking identifiers up, and the steps over the entries. The records are those of
- * samples/, all of 2024-03-14, some with a byte changed.
+ * index.c: the index: adding records, looking identifiers up, the steps over the entries, and merging. The records are
+ * those of samples/, all of 2024-03-14, some with a byte changed.
  */
 #include "check.h"
 
@@ -211,6 +211,111 @@ static void section_3_alone_is_asked(void) {
     }
 }
 
+/* ---- merging */
+
+/* An index that is lent to be read, with guards on both sides. */
+typedef struct {
+    size_t used;
+    uint8_t lent[GUARDS + INDEX_ROOM + GUARDS];
+} Index;
+
+static Index index_of(const Entry *entries, size_t count) {
+    Index index;
+    right_is(entries, count);
+    index.used = right_used;
+    memcpy(index.lent, right, sizeof right);
+    return index;
+}
+
+static int is_same(const Index *index, const Index *before) {
+    return memcmp(index->lent, before->lent, sizeof before->lent) == 0;
+}
+
+/* Merges two into an output of n bytes, which has guards in it, and holds the answer and all that was lent to what is right:
+ * the output is to be `right`. */
+static void merge_is(Index a, Index b, size_t n, ScpIndexed asked) {
+    const Index a_before = a, b_before = b;
+    memset(lent, CODE_GUARD, sizeof lent);
+    ScpIndexed merged = scp_index_merge(a.lent + GUARDS, a.used, b.lent + GUARDS, b.used, index_lent, n);
+    EXPECT(merged.refusal == asked.refusal);
+    EXPECT(merged.used == asked.used);
+    EXPECT(memcmp(lent, right, sizeof lent) == 0);
+    EXPECT(is_same(&a, &a_before) && is_same(&b, &b_before));
+}
+
+/* The index of both has these entries, with just enough room and with more. */
+static void merged(Index a, Index b, const Entry *entries, size_t count) {
+    right_is(entries, count);
+    EXPECT(right_used == a.used + b.used);
+    merge_is(a, b, right_used, (ScpIndexed){0, right_used});
+    merge_is(a, b, right_used + 1, (ScpIndexed){0, right_used});
+    merge_is(a, b, INDEX_ROOM, (ScpIndexed){0, right_used});
+}
+
+static void merge_refused(uint8_t refusal, Index a, Index b, size_t n) {
+    right_is(NULL, 0);
+    merge_is(a, b, n, (ScpIndexed){refusal, 0});
+}
+
+static void merging(void) {
+    const Index none = index_of(NULL, 0), some = index_of((Entry[]){six_leads, c_1204}, 2);
+    merged(none, none, NULL, 0);
+    merged(some, none, (Entry[]){six_leads, c_1204}, 2);
+    merged(none, some, (Entry[]){six_leads, c_1204}, 2);
+
+    const Index others = index_of((Entry[]){february, no_leads, seven}, 3);
+    merged(some, others, (Entry[]){february, six_leads, no_leads, seven, c_1204}, 5);
+    /* equal ones of the first index come first */
+    merged(others, some, (Entry[]){february, no_leads, six_leads, seven, c_1204}, 5);
+
+    const Index front = index_of((Entry[]){february, two_leads}, 2), back = index_of((Entry[]){two_leads, seven}, 2);
+    merged(front, back, (Entry[]){february, two_leads, two_leads, seven}, 4);
+    merged(back, front, (Entry[]){february, two_leads, two_leads, seven}, 4);
+
+    /* the same bytes lent twice, and null pointers for indexes of no bytes */
+    right_is((Entry[]){seven, seven}, 2);
+    memset(lent, CODE_GUARD, sizeof lent);
+    EXPECT(scp_index_merge(seven.bytes, seven.size, seven.bytes, seven.size, index_lent, INDEX_ROOM).used == 12);
+    EXPECT(memcmp(lent, right, sizeof lent) == 0);
+    EXPECT(scp_index_merge(NULL, 0, NULL, 0, NULL, 0).refusal == 0);
+    EXPECT(scp_index_merge(NULL, 0, NULL, 0, NULL, 0).used == 0);
+}
+
+/* What is merged in runs is what is added one by one: the index that `adding` leaves. */
+static void merging_runs(void) {
+    uint8_t all[sizeof lent];
+    adding();
+    memcpy(all, lent, sizeof lent);
+    const Index one = index_of(&c_1204, 1), two = index_of((Entry[]){six_leads, seven}, 2);
+    const Index three = index_of((Entry[]){february, no_leads}, 2);
+    merged(one, two, (Entry[]){six_leads, seven, c_1204}, 3);
+    merged(index_of((Entry[]){six_leads, seven, c_1204}, 3), three,
+           (Entry[]){february, six_leads, no_leads, seven, c_1204}, 5);
+    EXPECT(memcmp(lent, all, sizeof lent) == 0);
+    merged(two, three, (Entry[]){february, six_leads, no_leads, seven}, 4);
+    merged(one, index_of((Entry[]){february, six_leads, no_leads, seven}, 4),
+           (Entry[]){february, six_leads, no_leads, seven, c_1204}, 5);
+    EXPECT(memcmp(lent, all, sizeof lent) == 0);
+}
+
+static void merging_refused(void) {
+    const Index sound = index_of((Entry[]){no_leads, seven}, 2), unsorted = index_of((Entry[]){seven, no_leads}, 2);
+    Index cut = sound;
+    cut.used--;
+    static const size_t rooms[] = {0, 27, 28, INDEX_ROOM};
+    for (size_t k = 0; k < sizeof rooms / sizeof rooms[0]; k++) {
+        merge_refused(SCP_REFUSED_INDEX, sound, unsorted, rooms[k]);
+        merge_refused(SCP_REFUSED_INDEX, unsorted, sound, rooms[k]);
+        merge_refused(SCP_REFUSED_INDEX, unsorted, unsorted, rooms[k]);
+        merge_refused(SCP_REFUSED_INDEX, sound, cut, rooms[k]);
+        merge_refused(SCP_REFUSED_INDEX, cut, sound, rooms[k]);
+    }
+    merge_refused(SCP_REFUSED_ROOM, sound, sound, 27);
+    merge_refused(SCP_REFUSED_ROOM, sound, sound, 14);
+    merge_refused(SCP_REFUSED_ROOM, sound, index_of(NULL, 0), 13);
+    merge_refused(SCP_REFUSED_ROOM, index_of(NULL, 0), sound, 0);
+}
+
 void check_index(void) {
     adding();
     looking_up();
@@ -218,4 +323,7 @@ void check_index(void) {
     broken_entries();
     refusals();
     section_3_alone_is_asked();
+    merging();
+    merging_runs();
+    merging_refused();
 }

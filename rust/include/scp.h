@@ -49,7 +49,7 @@ enum {
      * the counts of the leads together, or lists of leads of unequal length */
     SCP_REFUSED_WRITER_BOUNDS = 17,
     SCP_REFUSED_DATE = 24,                  /* the month of tag 25 is outside 1 to 12, or its day outside 1 to 31 */
-    SCP_REFUSED_INDEX = 26                  /* the index is not whole entries in order, or more of it is in use than was lent */
+    SCP_REFUSED_INDEX = 26                  /* an index is not whole entries in order, or more of it is in use than was lent */
 };
 
 /* The most pointers that a record has, and the room in numbers that scp_open asks for. */
@@ -119,7 +119,7 @@ typedef struct {
     uint32_t bytes; /* how many bytes the record has */
 } ScpWritten;
 
-/* An index that a record was added to. */
+/* An index that a record was added to, or that two were merged into. */
 typedef struct {
     uint8_t refusal;
     size_t used; /* how many bytes of it are in use now */
@@ -233,7 +233,7 @@ ScpWritten scp_write_record(const uint8_t *section1, size_t n1, const uint8_t *s
  * An entry is five bytes and the identifier without its NUL. The five hold, most significant bit first: the identifier's
  * length in 6 bits (1 to 63), the year in 16, the month in 4 (1 to 12), the day in 5 (1 to 31), the leads in 8 (0 to 32) and
  * one bit that is 0. Entries are sorted by the identifier's bytes, a shorter one before a longer one that begins with it, then
- * by year, month and day; equal ones stand in order of arrival. Adding and looking up judge all bytes in use.
+ * by year, month and day; equal ones stand in order of arrival. Adding, looking up and merging judge all bytes in use.
  */
 
 /*
@@ -258,6 +258,17 @@ ScpPart scp_index_find(const uint8_t *index, size_t n, size_t used, const uint8_
  * where no whole entry by these rules stands. The order is not judged; any bytes and any place may be given. Never refused.
  */
 ScpIndexEntry scp_index_step(const uint8_t *index, size_t n, size_t at);
+
+/*
+ * Merges two indexes, each with all of its bytes in use: the output is then the index of both. The entries of both stand in
+ * order, those of `a` before equal ones of `b`; entries are equal if identifier and date are, whatever their leads. If the
+ * records of `a` arrived before those of `b`, the index is what adding all of them to an empty one gives, in order of arrival.
+ * The answer is how many bytes it has, an + bn. The first an + bn bytes of the output are changed and no others; none on
+ * refusal. The time that it takes is linear in an + bn.
+ *
+ * Refusals, the first that applies: 26 if either is no index, 11 if the output has fewer than an + bn bytes.
+ */
+ScpIndexed scp_index_merge(const uint8_t *a, size_t an, const uint8_t *b, size_t bn, uint8_t *out, size_t out_n);
 
 #ifdef __cplusplus
 }

@@ -10,24 +10,24 @@ use borrow.Author.Tests.{le-leb, eq-eqb, ne-eqb}
 use lib.Dec.{leb, ltb, eqb}
 use lib.ListN.{length, take, drop, length-append, length-drop, take-append-drop}
 use lib.Seq.{length-take-le, append-snoc, take-append-seam, take-at, drop-at}
-use Rattle.wire.specs.RuleWords.{every}
+use Rattle.wire.specs.RuleWords.{every, areBytes}
 use Rattle.wire.proofs.Places.{stands-part}
 use Rattle.wire.proofs.Every.{every-parts, every-join, every-more, every-cut, every-map}
 use Rattle.packing.proofs.Sinks.{rest-later}
 use Rattle.record.specs.Opening.{opens}
 use Rattle.fields.specs.Lookup.{partBytes}
-use Rattle.index.specs.Entry.{Entry, entryBytes, entrySize, entryRight}
-use Rattle.index.specs.Order.{before, inOrder}
-use Rattle.index.specs.Index.{indexBytes, bytesIn, entriesIn, isIndex, indexRight, front, behind, smaller, has, partOrNone, found, findPlace}
-use Rattle.index.proofs.Walk.{bytes-split}
+use Rattle.index.specs.Entry.{Entry, entryBytes, entrySize, yearFits, entryRight}
+use Rattle.index.specs.Order.{inOrder}
+use Rattle.index.specs.Index.{indexBytes, bytesIn, entriesIn, isIndex, indexRight, front, behind, upTo, placed, smaller, has, partOrNone, found, findPlace}
+use Rattle.index.proofs.Walk.{bytes-split, index-ordered}
 use Rattle.filing.specs.Filing.{section3Kept, entryOf, roomRight, addRefusal, addAnswer, placeFor, putIn, indexAfter}
 use Rattle.filing.proofs.Laws.{index-used, all-kept}
 use Rattle.arranged.specs.Arranged.{those, Arranged}
 use Rattle.arranged.proofs.Parts.{split, every-those}
-use Rattle.arranged.proofs.Arranging.{nothing, put-in, one, rule-kept, those-arranged}
+use Rattle.arranged.proofs.Arranging.{nothing, put-in, in-order, one, rule-kept, those-arranged}
 use Rattle.arranged.proofs.LookedUp.{looked-up, only-those}
-use Rattle.afresh.specs.Afresh.{areBytes, filable, yearFits, BuiltAfresh, EntriesInOrder, Grown, AddedAll, done, next, Accepted, Stored, AllAndOnly, LookedUpIn}
-use Rattle.afresh.proofs.Bytes.{index-length, index-append, bytes-append, entries-back, bytes-back, entries-right, years-fit}
+use Rattle.afresh.specs.Afresh.{filable, BuiltAfresh, EntriesInOrder, StoredAny, AddedAll, done, next, Accepted, Stored, AllAndOnly, LookedUpIn}
+use Rattle.index.proofs.Bytes.{index-length, index-append, bytes-append, entries-back, bytes-back, entries-right, years-fit}
 use Rattle.afresh.proofs.Filed.{filed-right, filed-year}
 
 -- a record that breaks no rule of its own is bytes
@@ -38,14 +38,13 @@ filable-bytes r h = and-eq-true-iff (areBytes r) _ .0 h .0
 -- ---- an index is the bytes of entries that keep their rules, in order
 
 -- such bytes are an index
-index-of : (es : List Entry) → every entryRight es ≡ true → every yearFits es ≡ true → inOrder es ≡ true → isIndex (indexBytes es) ≡ true
+pub index-of : (es : List Entry) → every entryRight es ≡ true → every yearFits es ≡ true → inOrder es ≡ true → isIndex (indexBytes es) ≡ true
 unfolding isIndex
 index-of es right years ordered =
     rw (entries-back es right years, eq-eqb (bytesIn es) (length (indexBytes es)) (sym (index-length es))) ordered
 
 -- and no others are
 pub index-exactly : (s : List ℕ) → areBytes s ≡ true → (isIndex s ≡ true) ↔ EntriesInOrder s
-unfolding isIndex
 index-exactly s b = (there, λ (o : EntriesInOrder s). rw (o .bytes) (index-of (o .entries) (o .right) (o .years) (o .ordered)))
   where
     there : isIndex s ≡ true → EntriesInOrder s
@@ -53,7 +52,7 @@ index-exactly s b = (there, λ (o : EntriesInOrder s). rw (o .bytes) (index-of (
       entries = entriesIn s;
       right = entries-right s;
       years = years-fit s;
-      ordered = and-eq-true-iff (eqb (bytesIn (entriesIn s)) (length s)) _ .0 h .1;
+      ordered = index-ordered s h;
       bytes = sym (bytes-back s b h);
     }
 
@@ -83,11 +82,10 @@ module _ (rs : List (List ℕ)) (s : List ℕ) (b : BuiltAfresh rs s) where
 -- the bytes in use of a right one are an index, and its entries are in order
 index-parts : (lent : List ℕ) (used : ℕ) → indexRight lent used ≡ true
     → (isIndex (take used lent) ≡ true) × (inOrder (entriesIn (take used lent)) ≡ true)
-unfolding indexRight isIndex
+unfolding indexRight
 index-parts lent used h =
-    let s = take used lent in
-    let a = and-eq-true-iff (leb used (length lent)) _ .0 h .1 in
-    (a, and-eq-true-iff (eqb (bytesIn (entriesIn s)) (length s)) _ .0 a .1)
+    let i = and-eq-true-iff (leb used (length lent)) _ .0 h .1 in
+    (i, index-ordered (take used lent) i)
 
 -- so the bytes in use are right where they are one
 built-right : (rs : List (List ℕ)) (lent : List ℕ) (used : ℕ) → used ≤ length lent → BuiltAfresh rs (take used lent)
@@ -101,7 +99,7 @@ one-index rs s t a b =
     a .bytes ∙ ap indexBytes (one (map entryOf rs) (a .entries) (b .entries) (a .arranged) (b .arranged)) ∙ sym (b .bytes)
 
 -- the index of no records is empty
-built-none : BuiltAfresh [] []
+pub built-none : BuiltAfresh [] []
 unfolding indexBytes every
 built-none = record { filed = refl; entries = []; arranged = nothing; bytes = refl }
 
@@ -150,26 +148,20 @@ put-between lent a b rest at used e whole place size =
     let later : drop at lent ≡ b ++ rest = ap (drop at) whole ∙ drop-at a (b ++ rest) at place in
     rw (n, first, later, take-append-seam b rest, append-assoc a (entryBytes e ++ b), append-assoc (entryBytes e) b)
 
--- entries with one put in, behind all that are not greater
-abbrev placed : Entry → List Entry → List Entry
-placed e es = front (λ x. not (before e x)) es ++ (e ∷ behind (λ x. not (before e x)) es)
-
--- they have that many bytes more
-placed-size : (e : Entry) (es : List Entry) → bytesIn (placed e es) ≡ bytesIn es + entrySize e
+-- entries with one put in have that many bytes more
+pub placed-size : (e : Entry) (es : List Entry) → bytesIn (placed e es) ≡ bytesIn es + entrySize e
 unfolding bytesIn
 placed-size e es =
-    let keeps : Entry → Bool = λ x. not (before e x) in
-    omega (arith, bytes-split keeps es, bytes-append (front keeps es) (e ∷ behind keeps es))
+    omega (arith, bytes-split (upTo e) es, bytes-append (front (upTo e) es) (e ∷ behind (upTo e) es))
 
 -- put into the bytes of entries, an entry stands among them at its place
 put-bytes : (lent : List ℕ) (used : ℕ) (es : List Entry) (e : Entry) → take used lent ≡ indexBytes es → bytesIn es ≡ used
     → putIn lent used (placeFor e es) e ≡ indexBytes (placed e es) ++ drop (used + entrySize e) lent
 unfolding placeFor indexBytes
 put-bytes lent used es e bytes size =
-    let keeps : Entry → Bool = λ x. not (before e x) in
-    let near = front keeps es in
-    let far = behind keeps es in
-    let halves : indexBytes es ≡ indexBytes near ++ indexBytes far = ap indexBytes (split keeps es) ∙ index-append near far in
+    let near = front (upTo e) es in
+    let far = behind (upTo e) es in
+    let halves : indexBytes es ≡ indexBytes near ++ indexBytes far = ap indexBytes (split (upTo e) es) ∙ index-append near far in
     let whole : lent ≡ indexBytes near ++ (indexBytes far ++ drop used lent) =
     sym (take-append-drop used lent) ∙ rw (bytes, halves, append-assoc) in
     let sum : length (indexBytes near) + length (indexBytes far) ≡ used =
@@ -178,10 +170,18 @@ put-bytes lent used es e bytes size =
     ∙ rw (index-append near (e ∷ far))
 
 -- bytes that begin with others, and go on as what was lent does
-record Begun (s lent after : List ℕ) (end : ℕ) : Type 0 where
-  first : take end after ≡ s
-  rest : drop end after ≡ drop end lent
-  size : length after ≡ length lent
+pub record Begun (s lent after : List ℕ) (end : ℕ) : Type 0 where
+  pub first : take end after ≡ s
+  pub rest : drop end after ≡ drop end lent
+  pub size : length after ≡ length lent
+
+-- so do those that are put together of them
+pub begun-with : (s lent after : List ℕ) (end : ℕ) → length s ≡ end → end ≤ length lent → after ≡ s ++ drop end lent → Begun s lent after end
+begun-with s lent after end long room whole = record {
+  first = ap (take end) whole ∙ take-at s (drop end lent) end long;
+  rest = ap (drop end) whole ∙ drop-at s (drop end lent) end long;
+  size = ap length whole ∙ rw (length-append, length-drop) (omega arith);
+}
 
 -- a record that is accepted by an index of entries leaves the bytes of these and its own, at its place
 begun : (lent : List ℕ) (used : ℕ) (r : List ℕ) (es : List Entry) → addAnswer lent used r .refusal ≡ 0 → take used lent ≡ indexBytes es
@@ -198,11 +198,7 @@ begun lent used r es ok bytes entries =
     let long : length s ≡ end = index-length (placed e es) ∙ placed-size e es ∙ rw size in
     let whole : indexAfter lent used r ≡ s ++ drop end lent =
     after-then lent used r ok ∙ rw entries (put-bytes lent used es e bytes size) in
-    record {
-      first = ap (take end) whole ∙ take-at s (drop end lent) end long;
-      rest = ap (drop end) whole ∙ drop-at s (drop end lent) end long;
-      size = ap length whole ∙ rw (length-append, length-drop) (omega (arith, k .room));
-    }
+    begun-with s lent (indexAfter lent used r) end long (k .room) whole
 
 -- adding a record to an index built afresh gives the index of it and those before it, built afresh
 pub adding : (rs : List (List ℕ)) (lent : List ℕ) (used : ℕ) (r : List ℕ) → BuiltAfresh rs (take used lent) → areBytes r ≡ true
@@ -224,7 +220,7 @@ adding rs lent used r b bytes ok =
 
 -- adding a record to any index gives the index of its entry and those that were there, arranged
 pub adding-any : (lent : List ℕ) (used : ℕ) (r : List ℕ) → areBytes lent ≡ true → areBytes r ≡ true → addAnswer lent used r .refusal ≡ 0
-    → Grown lent used (entryOf r) (indexAfter lent used r) (addAnswer lent used r .used)
+    → StoredAny (entriesIn (take used lent) ++ (entryOf r ∷ [])) lent (indexAfter lent used r) (addAnswer lent used r .used)
 unfolding addAnswer indexRight
 adding-any lent used r bytes own ok =
     let s = take used lent in
@@ -233,7 +229,7 @@ adding-any lent used r bytes own ok =
     let f = accepted-filable lent used r ok own in
     let i = index-parts lent used (all-kept lent used r ok .index) in
     let w = begun lent used r es ok (sym (bytes-back s (every-cut (λ b. ltb b 256) used lent bytes .0) (i .0))) refl in
-    let arranged = put-in es es e (record { ordered = i .1; each = λ x. refl }) in
+    let arranged = put-in es es e (in-order es (i .1)) in
     let right = rule-kept entryRight (es ++ (e ∷ [])) (placed e es) arranged (every-more entryRight es e (entries-right s) (filed-right r (f .0))) in
     let years = rule-kept yearFits (es ++ (e ∷ [])) (placed e es) arranged (every-more yearFits es e (years-fit s) (filed-year r own)) in
     let within = le-leb (used + entrySize e) (length (indexAfter lent used r)) (omega (arith, f .1, w .size)) in

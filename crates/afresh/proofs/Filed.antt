@@ -10,6 +10,7 @@ use lib.Dec.{leb, ltb}
 use lib.ListN.{length, drop}
 use Rattle.wire.specs.Bounds.{mostLeads}
 use Rattle.wire.specs.Numbers.{byteAt, numberAt, bytesOf}
+use Rattle.wire.specs.RuleWords.{areBytes}
 use Rattle.wire.proofs.Every.{every-cut}
 use Rattle.pointers.specs.Pointers.{present, sectionOf}
 use Rattle.record.specs.Opening.{opens}
@@ -18,10 +19,10 @@ use Rattle.fields.specs.Recording.{fieldOf, identifierOf, yearOf, monthOf, dayO
 use Rattle.fields.proofs.Recording.{date-size, identified}
 use Rattle.packing.proofs.Laws.{Bytes}
 use Rattle.entries.specs.Section3.{leadCount, section3Right}
-use Rattle.index.specs.Entry.{entryRight}
+use Rattle.index.specs.Entry.{yearFits, entryRight}
 use Rattle.filing.specs.Filing.{section3Kept, leadsOf, entryOf, dateKept}
-use Rattle.afresh.specs.Afresh.{filable, areBytes, yearFits}
-use Rattle.afresh.proofs.Bytes.{byte-each}
+use Rattle.afresh.specs.Afresh.{filable}
+use Rattle.index.proofs.Bytes.{byte-each}
 
 -- there are up to 32 leads
 leads-most : (r : List ℕ) → section3Kept r ≡ true → leb (leadsOf r) mostLeads ≡ true

@@ -1,3 +1,3 @@
-pub mod Bytes
 pub mod Filed
 pub mod Afresh
+pub mod Runs

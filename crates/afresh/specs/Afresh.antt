@@ -3,21 +3,16 @@ use Prim.Native.Nat.{ℕ, _≤_}
 use mathlib.Core.Path.{_≡_}
 use mathlib.Core.Bool.{Bool, true, not, _&&_}
 use mathlib.Core.List.{List, [], _∷_, _++_, map}
-use lib.Dec.{ltb}
 use lib.ListN.{length, take, drop}
-use Rattle.wire.specs.RuleWords.{every}
+use Rattle.wire.specs.RuleWords.{every, areBytes}
 use Rattle.record.specs.Opening.{opens}
 use Rattle.fields.specs.declared.Place.{Place}
 use Rattle.fields.specs.Lookup.{partBytes}
-use Rattle.index.specs.Entry.{Entry, entryRight}
+use Rattle.index.specs.Entry.{Entry, yearFits, entryRight}
 use Rattle.index.specs.Order.{inOrder}
 use Rattle.index.specs.Index.{indexBytes, bytesIn, entriesIn, indexRight, has, partOrNone}
 use Rattle.filing.specs.Filing.{section3Kept, entryOf, dateKept, addAnswer, indexAfter}
 use Rattle.arranged.specs.Arranged.{those, Arranged}
-
--- numbers that are bytes, as all that is lent are
-abbrev pub areBytes : List ℕ → Bool
-areBytes s = every (λ b. ltb b 256) s
 
 -- the bytes of a record that keeps the rules that adding asks of it: rows 1 to 6, 8 for Section 3, and 24
 unfoldable pub filable : List ℕ → Bool
@@ -30,10 +25,7 @@ pub record BuiltAfresh (rs : List (List ℕ)) (s : List ℕ) : Type 0 where
   pub arranged : Arranged (map entryOf rs) entries
   pub bytes : s ≡ indexBytes entries
 
--- the bytes of entries that keep their rules, in order; a year has room in its 16 bits
-abbrev pub yearFits : Entry → Bool
-yearFits e = ltb (e .year) 65536
-
+-- the bytes of entries that keep their rules and whose years fit, in order
 pub record EntriesInOrder (s : List ℕ) : Type 0 where
   pub entries : List Entry
   pub right : every entryRight entries ≡ true
@@ -41,10 +33,10 @@ pub record EntriesInOrder (s : List ℕ) : Type 0 where
   pub ordered : inOrder entries ≡ true
   pub bytes : s ≡ indexBytes entries
 
--- a lent index, whoever made it, after an entry was added: an index of the entries that it had and this one, arranged; behind it what was lent
-pub record Grown (lent : List ℕ) (used : ℕ) (e : Entry) (after : List ℕ) (end : ℕ) : Type 0 where
+-- the lent bytes afterwards: an index of the entries that arrived, arranged, whoever made them; and behind it the lent bytes as they were
+pub record StoredAny (arrived : List Entry) (lent after : List ℕ) (end : ℕ) : Type 0 where
   pub right : indexRight after end ≡ true
-  pub arranged : Arranged (entriesIn (take used lent) ++ (e ∷ [])) (entriesIn (take end after))
+  pub arranged : Arranged arrived (entriesIn (take end after))
   pub rest : drop end after ≡ drop end lent
   pub size : length after ≡ length lent
 
@@ -60,7 +52,7 @@ pub record Accepted (lent : List ℕ) (used : ℕ) (rs : List (List ℕ)) : Type
   pub end : ℕ
   pub added : AddedAll lent used rs after end
 
--- the lent index afterwards: the index of records, built afresh, and behind it what was lent
+-- the lent bytes afterwards: the index of records, built afresh, and behind it the lent bytes as they were
 pub record Stored (rs : List (List ℕ)) (lent after : List ℕ) (end : ℕ) : Type 0 where
   pub index : BuiltAfresh rs (take end after)
   pub fits : end ≤ length after

@@ -38,14 +38,15 @@ use Rattle.trip.proofs.Traces.{stream-back}
 use Rattle.trip.proofs.Compose.{meant-right, given-right}
 use Rattle.trip.proofs.Written.{written-back}
 use Rattle.index.specs.Entry.{entrySize, entryIn, isEntry, shownAt, noneAt, entryAt}
-use Rattle.index.specs.Index.{entriesIn}
+use Rattle.index.specs.Index.{indexBytes, entriesIn}
 use Rattle.index.specs.Entry as IE
 use Rattle.index.proofs.Heads.{entry-fits}
 use Rattle.index.proofs.Walk.{entries-step, seen-there, shown-there}
 use Rattle.filing.specs.Filing as F
-use Rattle.answers.specs.Demands.{AllKept, rowsAdded, rowsOpened, rowsLead, Demand2}
+use Rattle.merging.specs.Merging.{merged, mergeAnswer, mergedInto}
+use Rattle.answers.specs.Demands.{AllKept, rowsAdded, rowsMerged, rowsOpened, rowsLead, Demand2}
 use Rattle.answers.proofs.Laws.{none-broken}
-use Rattle.answers.proofs.Refusals.{lead, opened, accepted, streamed}
+use Rattle.answers.proofs.Refusals.{lead, opened, accepted, accepted-merge, streamed}
 use Rattle.answers.proofs.Fewest.{given-kept, undone}
 use Rattle.fields.proofs.Identifiers.{same-equal, equal-same}
 
@@ -86,6 +87,12 @@ added : (lent : List ℕ) (used : ℕ) (r : List ℕ) → AllKept (rowsAdded len
     × (F.indexAfter lent used r ≡ F.putIn lent used (F.placeFor (F.entryOf r) (entriesIn (take used lent))) (F.entryOf r))
 unfolding F.addAnswer F.indexAfter
 added lent used r kept = rw (accepted lent used r kept) (refl, refl)
+
+merged-two : (a b out : List ℕ) → AllKept (rowsMerged a b (length out))
+    → (mergeAnswer a b (length out) ≡ record { refusal = 0; used = length a + length b })
+    × (mergedInto a b out ≡ indexBytes (merged (entriesIn a) (entriesIn b)) ++ drop (length a + length b) out)
+unfolding mergeAnswer mergedInto
+merged-two a b out kept = rw (accepted-merge a b (length out) kept) (refl, refl)
 
 listed : (s : List ℕ) (at : ℕ) → isEntry (drop at s) ≡ true
     → (entryAt s at ≡ shownAt at (entryIn (drop at s)))
@@ -153,6 +160,7 @@ demand2 = record {
   undone = λ r order xs bs right fit. undone (length (tablesOf r)) (tablesOf r) (record-right r right) order xs bs fit;
   undone-given = λ s2 order xs bs right fit. undone (length (tablesGiven s2)) (tablesGiven s2) (given-right s2 right) order xs bs fit;
   added = added;
+  merged-two = merged-two;
   listed = listed;
   listed-end = listed-end;
   coded-back = λ s2 xs order work out a w o fit e. encoded-back fit e;

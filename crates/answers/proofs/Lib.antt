@@ -7,6 +7,7 @@ pub mod Fewest
 pub mod Acceptance
 pub mod Padding
 pub mod AuditorsIndex
+pub mod MergedIndexes
 pub mod Written
 pub mod Shortest
 pub mod Outcomes

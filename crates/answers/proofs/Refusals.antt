@@ -34,7 +34,8 @@ use Rattle.compose.specs.Writing as C
 use Rattle.compose.specs.Writing.{Job, RecordWriting}
 use Rattle.index.specs.Index.{bytesIn, entriesIn, indexRight, front, behind, smaller, has, partOrNone, found, findPlace}
 use Rattle.filing.specs.Filing as F
-use Rattle.answers.specs.Demands.{firstBroken, allKept, AllKept, rowsIndex, rowsAdded, refusedAdding, rowsOpened, rowsField, rowsLead, rowsRead, rowsAsked, rowsJob, faultOf, Later, refusedLead, refusedEntry, refusedStream, refusedRecord, Demand1}
+use Rattle.merging.specs.Merging.{mergeRefusal, mergeAnswer, mergedInto}
+use Rattle.answers.specs.Demands.{firstBroken, allKept, AllKept, rowsIndex, rowsAdded, rowsMerged, refusedIndex, rowsOpened, rowsField, rowsLead, rowsRead, rowsAsked, rowsJob, faultOf, Later, refusedLead, refusedEntry, refusedStream, refusedRecord, Demand1}
 use Rattle.answers.proofs.Faults.{fault-number}
 use Rattle.answers.proofs.Laws.{none-broken, broken-behind, broken-first, broken-kept}
 
@@ -119,9 +120,27 @@ unfolding F.addAnswer
 accepted lent used r kept = added lent used r ∙ none-broken (rowsAdded lent used r) 0 kept
 
 not-added : (lent : List ℕ) (used : ℕ) (r : List ℕ) (n : ℕ) → F.addAnswer lent used r .refusal ≡ suc n
-    → (F.addAnswer lent used r ≡ refusedAdding (suc n)) × (F.indexAfter lent used r ≡ lent)
+    → (F.addAnswer lent used r ≡ refusedIndex (suc n)) × (F.indexAfter lent used r ≡ lent)
 unfolding F.addAnswer F.indexAfter
 not-added lent used r n e = rw (e, ne-eqb (suc n) 0 (omega arith)) (refl, refl)
+
+-- ---- merging
+
+merging : (a b : List ℕ) (room : ℕ) → mergeAnswer a b room .refusal ≡ firstBroken (rowsMerged a b room) 0
+unfolding mergeAnswer mergeRefusal firstBroken
+merging a b room = refl
+
+-- where its rows are kept it is accepted
+pub accepted-merge : (a b : List ℕ) (room : ℕ) → AllKept (rowsMerged a b room) → mergeRefusal a b room ≡ 0
+unfolding mergeAnswer
+accepted-merge a b room kept = merging a b room ∙ none-broken (rowsMerged a b room) 0 kept
+
+not-merged : (a b out : List ℕ) (n : ℕ) → mergeAnswer a b (length out) .refusal ≡ suc n
+    → (mergeAnswer a b (length out) ≡ refusedIndex (suc n)) × (mergedInto a b out ≡ out)
+unfolding mergeAnswer mergedInto
+not-merged a b out n e = rw (e, ne-eqb (suc n) 0 (omega arith)) (refl, refl)
+
+-- ---- looking up
 
 found-none : (start size : ℕ) → refusalOf (partOrNone start size) ≡ 0
 found-none start size = go (eqb size 0)
@@ -330,6 +349,7 @@ demand1 = record {
   writing-later = λ j work out a w o f kept.
       write-later f (eqb-true (C.jobRefusal j (length work)) 0 (sym (writing-kept j (length work)) ∙ kept));
   adding = added;
+  merging = merging;
   finding = finding;
   alone = alone;
   not-opened = not-opened;
@@ -340,6 +360,7 @@ demand1 = record {
   not-coded = λ s2 xs order work out a w o n e. encode-refused n e;
   not-written = λ j work out a w o n f. write-refused n f;
   not-added = not-added;
+  not-merged = not-merged;
   not-found = λ lent used id n. not-shown lent n (findPlace lent used id);
   work-read = work-read;
   work-coded = λ s2 xs order work out a w o e. encode-work e;

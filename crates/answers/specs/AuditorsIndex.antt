@@ -1,6 +1,6 @@
 -- The auditor's index (02, Q-13): adding records one after another gives what building afresh gives, and looking up shows all and only the
 -- entries of an identifier. rs are records in order of arrival, r is one more, s and t are bytes, and id is an identifier without its NUL; of
--- a lent index `lent`, `used` bytes are in use. All that is lent are bytes, by its type (`bytes_fit`, crates/answers/src/lib.rt).
+-- a lent index `lent`, `used` bytes are in use. All that is lent are bytes, by its type (`bytes_fit`, crates/wire/src/lib.rt).
 use Prim.Native.Nat.{ℕ, _+_, _≤_}
 use mathlib.Core.Path.{_≡_}
 use mathlib.Core.Bool.{true}
@@ -8,7 +8,7 @@ use mathlib.Core.List.{List, [], _∷_, _++_, map}
 use mathlib.Core.Logic.{_↔_}
 use lib.ListN.{length, take}
 use Rattle.wire.specs.Numbers.{bytesOf}
-use Rattle.wire.specs.RuleWords.{every}
+use Rattle.wire.specs.RuleWords.{every, areBytes}
 use Rattle.record.specs.Opening.{opens}
 use Rattle.fields.specs.Lookup.{partBytes}
 use Rattle.fields.specs.Recording.{fieldOf, identifierOf, yearOf, monthOf, dayOf}
@@ -17,7 +17,7 @@ use Rattle.index.specs.Order.{inOrder}
 use Rattle.index.specs.Index.{bytesIn, entriesIn, isIndex, indexRight, has, findPlace}
 use Rattle.filing.specs.Filing.{entryOf, addAnswer, indexAfter}
 use Rattle.arranged.specs.Arranged.{Arranged}
-use Rattle.afresh.specs.Afresh.{areBytes, filable, BuiltAfresh, EntriesInOrder, Grown, AddedAll, Accepted, Stored, AllAndOnly, LookedUpIn}
+use Rattle.afresh.specs.Afresh.{filable, BuiltAfresh, EntriesInOrder, StoredAny, AddedAll, Accepted, Stored, AllAndOnly, LookedUpIn}
 
 -- an entry with twelve leads, for the examples
 abbrev pub twelveLeads : List ℕ → ℕ → ℕ → ℕ → Entry
@@ -46,7 +46,7 @@ pub record AuditorsIndex : Type 0 where
       → Accepted lent 0 rs
   -- The same of an index of which nobody knows the records: its entries and the new one, arranged
   pub adding-any : (lent : List ℕ) (used : ℕ) (r : List ℕ) → areBytes lent ≡ true → areBytes r ≡ true → addAnswer lent used r .refusal ≡ 0
-      → Grown lent used (entryOf r) (indexAfter lent used r) (addAnswer lent used r .used)
+      → StoredAny (entriesIn (take used lent) ++ (entryOf r ∷ [])) lent (indexAfter lent used r) (addAnswer lent used r .used)
   -- Looking up an identifier shows all and only its entries, in any index; in one built afresh they are those of its records, arranged
   pub all-and-only : (lent id : List ℕ) (used : ℕ) → areBytes lent ≡ true → indexRight lent used ≡ true
       → AllAndOnly id (take used lent) (findPlace lent used id)

@@ -56,10 +56,11 @@ use Rattle.compose.specs.declared.Written.{Written}
 use Rattle.compose.specs.Writing.{Job, longest, jobRight, recordOf, RecordWriting}
 use Rattle.trip.specs.GivenBack.{JobFits, GivenBack, samplesOf}
 use Rattle.index.specs.Entry.{entrySize, entryIn, isEntry, shownAt, noneAt, entryAt}
-use Rattle.index.specs.Index.{entriesIn, indexRight, findPlace}
+use Rattle.index.specs.Index.{indexBytes, entriesIn, isIndex, indexRight, findPlace}
 use Rattle.filing.specs.declared.Indexed.{Indexed}
 use Rattle.filing.specs.Filing as F
 use Rattle.filing.specs.Filing.{section3Kept, dateKept, addAnswer, placeFor, putIn, indexAfter}
+use Rattle.merging.specs.Merging.{merged, roomForBoth, mergeAnswer, mergedInto}
 use Rattle.scp.specs.declared.ScpOpened.{ScpOpened}
 
 -- ---- rules in a row
@@ -112,6 +113,10 @@ abbrev pub rowsAdded : List ℕ → ℕ → List ℕ → List (ℕ × Bool)
 rowsAdded lent used r =
     rowsIndex lent used ++ (rowsOpened r ++ ((8, section3Kept r) ∷ (24, dateKept r) ∷ (11, F.roomRight lent used r) ∷ []))
 
+-- 26 and 11, asked of two indexes that are merged, and of the room for both
+abbrev pub rowsMerged : List ℕ → List ℕ → ℕ → List (ℕ × Bool)
+rowsMerged a b room = (26, isIndex a) ∷ (26, isIndex b) ∷ (11, roomForBoth a b room) ∷ []
+
 -- the fault that a trace has, and 0 where it is rebuilt
 abbrev pub faultOf : Trace → ℕ
 faultOf (rebuilt xs) = 0
@@ -135,8 +140,8 @@ refusedStream n = record { refusal = n; bytes = 0; bits = 0 }
 abbrev pub refusedRecord : ℕ → Written
 refusedRecord n = record { refusal = n; bytes = 0 }
 
-abbrev pub refusedAdding : ℕ → Indexed
-refusedAdding n = record { refusal = n; used = 0 }
+abbrev pub refusedIndex : ℕ → Indexed
+refusedIndex n = record { refusal = n; used = 0 }
 
 -- ---- the first demand
 
@@ -162,8 +167,10 @@ pub record Demand1 : Type 0 where
       → LeadEncoding s2 xs order work out a w o → AllKept (rowsAsked s2 (length xs) order (length work)) → Later (a .refusal)
   pub writing-later : (j : Job) (work out : List ℕ) (a : Written) (w o : List ℕ) → RecordWriting j work out a w o
       → AllKept (rowsJob j (length work)) → Later (a .refusal)
-  -- adding a record to the index and looking up an identifier in it: the first of their rows that is broken, and 0 where none is
+  -- adding a record to the index, merging two indexes and looking up an identifier in one: the first of their rows that is broken, and 0 where
+  -- none is
   pub adding : (lent : List ℕ) (used : ℕ) (r : List ℕ) → addAnswer lent used r .refusal ≡ firstBroken (rowsAdded lent used r) 0
+  pub merging : (a b : List ℕ) (room : ℕ) → mergeAnswer a b room .refusal ≡ firstBroken (rowsMerged a b room) 0
   pub finding : (lent : List ℕ) (used : ℕ) (id : List ℕ) → refusalOf (findPlace lent used id) ≡ firstBroken (rowsIndex lent used) 0
   -- a row from 1 to 9 that is asked alone is the row that opening and reading ask. So the smallest that is not kept is the refusal: of 1 to
   -- 6 that of opening, of 1 to 9 that of reading
@@ -184,7 +191,9 @@ pub record Demand1 : Type 0 where
   pub not-written : (j : Job) (work out : List ℕ) (a : Written) (w o : List ℕ) (n : ℕ) → RecordWriting j work out a w o → a .refusal ≡ suc n
       → (a ≡ refusedRecord (suc n)) × (o ≡ out)
   pub not-added : (lent : List ℕ) (used : ℕ) (r : List ℕ) (n : ℕ) → addAnswer lent used r .refusal ≡ suc n
-      → (addAnswer lent used r ≡ refusedAdding (suc n)) × (indexAfter lent used r ≡ lent)
+      → (addAnswer lent used r ≡ refusedIndex (suc n)) × (indexAfter lent used r ≡ lent)
+  pub not-merged : (a b out : List ℕ) (n : ℕ) → mergeAnswer a b (length out) .refusal ≡ suc n
+      → (mergeAnswer a b (length out) ≡ refusedIndex (suc n)) × (mergedInto a b out ≡ out)
   pub not-found : (lent : List ℕ) (used : ℕ) (id : List ℕ) (n : ℕ) → refusalOf (findPlace lent used id) ≡ suc n
       → (findPlace lent used id ≡ Refused (suc n)) × (partBytes lent (findPlace lent used id) ≡ [])
   -- > save that work space is cleared once its use has begun.
@@ -254,6 +263,10 @@ pub record Demand2 : Type 0 where
   pub added : (lent : List ℕ) (used : ℕ) (r : List ℕ) → AllKept (rowsAdded lent used r)
       → (addAnswer lent used r ≡ record { refusal = 0; used = used + entrySize (F.entryOf r) })
       × (indexAfter lent used r ≡ putIn lent used (placeFor (F.entryOf r) (entriesIn (take used lent))) (F.entryOf r))
+  -- where all rows of merging are kept, the entries of both are merged, and the output stays behind them. `MergedIndexes` says what that gives
+  pub merged-two : (a b out : List ℕ) → AllKept (rowsMerged a b (length out))
+      → (mergeAnswer a b (length out) ≡ record { refusal = 0; used = length a + length b })
+      × (mergedInto a b out ≡ indexBytes (merged (entriesIn a) (entriesIn b)) ++ drop (length a + length b) out)
   -- a step at a place of any bytes shows the entry there, its identifier as a part of the bytes, and the place behind it, from which the
   -- others follow; or that there is none
   pub listed : (s : List ℕ) (at : ℕ) → isEntry (drop at s) ≡ true

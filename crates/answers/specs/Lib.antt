@@ -2,3 +2,4 @@ pub mod Examples
 pub mod Demands
 pub mod Padding
 pub mod AuditorsIndex
+pub mod MergedIndexes

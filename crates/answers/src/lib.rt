@@ -1,5 +1,6 @@
 // The auditor's theorems: specs/ states them and has the table of examples, proofs/ shows them. The functions here change nothing and answer
-// nothing. They ensure what theorems ask of samples, of a job and of bytes: every call meets it, by the types of what it lends.
+// nothing. They ensure what theorems ask of samples and of a job: every call meets it, by the types of what it lends. Of bytes,
+// `wire::bytes_fit` ensures it.
 ghost use mathlib.Core.Path.{_≡_};
 ghost use mathlib.Core.Bool.{true};
 ghost use Rattle.wire.specs.RuleWords.{every};
@@ -7,7 +8,6 @@ ghost use Rattle.samples.specs.Trace.{fits16};
 ghost use Rattle.compose.specs.Writing.{jobOf};
 ghost use Rattle.compose.specs.declared.Head.{Head};
 ghost use Rattle.trip.specs.GivenBack.{JobFits};
-ghost use Rattle.afresh.specs.Afresh.{areBytes};
 use compose::Head;
 
 // Samples that are lent have 16 bits. Each is looked at, since the checker says of an element what its type says where it is read.
@@ -36,15 +36,4 @@ pub fn job_fits(
         (now (samples .entry))) ⌝ }
 {
     samples_fit(samples);
-}
-
-// Bytes that are lent are bytes.
-pub fn bytes_fit(bytes: &[u8])
-    ensures { λ _. ⌜ areBytes (now (bytes .entry)) ≡ true ⌝ }
-{
-    let mut i = 0;
-    while i < bytes.len() {
-        let _byte = bytes[i];
-        i += 1;
-    }
 }

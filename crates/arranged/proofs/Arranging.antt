@@ -7,7 +7,7 @@ use borrow.Author.Tests.{not-false}
 use Rattle.wire.specs.RuleWords.{every}
 use Rattle.index.specs.Entry.{Entry}
 use Rattle.index.specs.Order.{before, inOrder}
-use Rattle.index.specs.Index.{front, behind, has}
+use Rattle.index.specs.Index.{front, behind, upTo, placed, has}
 use Rattle.arranged.specs.Arranged.{alike, those, Arranged}
 use Rattle.arranged.proofs.Order.{first, second, third, less-later, less-not-like, like-self, before-order}
 use Rattle.wire.proofs.Every.{every-weaker, every-any}
@@ -20,7 +20,7 @@ use Rattle.arranged.proofs.Parts.{
   those-tail,
   those-those,
 }
-use Rattle.arranged.proofs.Ordered.{every-behind, every-from, tail-ordered, those-ordered, upTo, with, with-ordered}
+use Rattle.arranged.proofs.Ordered.{every-behind, every-from, tail-ordered, those-ordered, placed-ordered}
 
 -- nothing is the arrangement of nothing
 pub nothing : Arranged [] []
@@ -38,10 +38,10 @@ none-alike e f es a h =
     (every-weaker (before e) (λ x. not (alike f x)) (λ x k. rw (less-not-like before-order f x (before-order .left f e x a ∙ k))) es h)
 
 -- with e, those that are alike are the same as before, and e the last of them
-with-each : (e f : Entry) (arrived es : List Entry) → inOrder es ≡ true → those (alike f) es ≡ those (alike f) arrived
-    → those (alike f) (with e es) ≡ those (alike f) (arrived ++ (e ∷ []))
+placed-each : (e f : Entry) (arrived es : List Entry) → inOrder es ≡ true → those (alike f) es ≡ those (alike f) arrived
+    → those (alike f) (placed e es) ≡ those (alike f) (arrived ++ (e ∷ []))
 unfolding those
-with-each e f arrived es h k =
+placed-each e f arrived es h k =
     rw (those-append (alike f) (front (upTo e) es) (e ∷ behind (upTo e) es), those-append (alike f) arrived (e ∷ [])) (go (alike f e) refl)
   where
     early : List Entry
@@ -64,10 +64,21 @@ with-each e f arrived es h k =
 
 -- where an entry arrives, the arrangement is as before, with it put before the first that comes behind it
 pub put-in : (arrived es : List Entry) (e : Entry) → Arranged arrived es
-    → Arranged (arrived ++ (e ∷ [])) (front (λ x. not (before e x)) es ++ (e ∷ behind (λ x. not (before e x)) es))
+    → Arranged (arrived ++ (e ∷ [])) (placed e es)
 put-in arrived es e a = record {
-  ordered = with-ordered e es (a .ordered);
-  each = λ f. with-each e f arrived es (a .ordered) (a .each f);
+  ordered = placed-ordered e es (a .ordered);
+  each = λ f. placed-each e f arrived es (a .ordered) (a .each f);
+}
+
+-- entries in order are their own arrangement
+pub in-order : (es : List Entry) → inOrder es ≡ true → Arranged es es
+in-order es h = record { ordered = h; each = λ e. refl }
+
+-- what arrived last may come arranged
+pub later-arranged : (arrived late fs es : List Entry) → Arranged late fs → Arranged (arrived ++ fs) es → Arranged (arrived ++ late) es
+later-arranged arrived late fs es b a = record {
+  ordered = a .ordered;
+  each = λ e. a .each e ∙ rw (those-append (alike e) arrived fs, b .each e, ← those-append (alike e) arrived late);
 }
 
 -- the first entry is the first of those that are alike with it

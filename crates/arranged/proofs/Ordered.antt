@@ -6,7 +6,7 @@ use borrow.Author.Tests.{not-true}
 use Rattle.wire.specs.RuleWords.{every}
 use Rattle.index.specs.Entry.{Entry}
 use Rattle.index.specs.Order.{before, orderedFrom, inOrder}
-use Rattle.index.specs.Index.{front, behind}
+use Rattle.index.specs.Index.{front, behind, upTo, placed}
 use Rattle.arranged.specs.Arranged.{those}
 use Rattle.arranged.proofs.Order.{less-not-turned, not-less-onward, before-order}
 
@@ -88,33 +88,25 @@ those-ordered rule (e ∷ es) h = go (rule e) (those-ordered rule es (tail-order
     go true k = those-from rule e es h
     go false k = k
 
--- f does not come behind e
-abbrev pub upTo : Entry → Entry → Bool
-upTo e f = not (before e f)
-
--- the entries, with e put before the first that comes behind it
-abbrev pub with : Entry → List Entry → List Entry
-with e es = front (upTo e) es ++ (e ∷ behind (upTo e) es)
-
 -- with e they are in order from d on, if they were and e does not come before d
-with-from : (e d : Entry) (es : List Entry) → before e d ≡ false → orderedFrom d es ≡ true → orderedFrom d (with e es) ≡ true
+placed-from : (e d : Entry) (es : List Entry) → before e d ≡ false → orderedFrom d es ≡ true → orderedFrom d (placed e es) ≡ true
 unfolding front behind orderedFrom
-with-from e d [] h k = from-join d e [] h refl
-with-from e d (f ∷ es) h k = go (before e f) refl (from-next d f es k) (with-from e f es)
+placed-from e d [] h k = from-join d e [] h refl
+placed-from e d (f ∷ es) h k = go (before e f) refl (from-next d f es k) (placed-from e f es)
   where
     go : (b : Bool) → before e f ≡ b → (before f d ≡ false) × (orderedFrom f es ≡ true)
-        → (before e f ≡ false → orderedFrom f es ≡ true → orderedFrom f (with e es) ≡ true)
+        → (before e f ≡ false → orderedFrom f es ≡ true → orderedFrom f (placed e es) ≡ true)
         → orderedFrom d (cond (not b) (f ∷ front (upTo e) es) [] ++ (e ∷ cond (not b) (behind (upTo e) es) (f ∷ es))) ≡ true
     go true q n later = from-join d e (f ∷ es) h (from-join e f es (less-not-turned before-order e f q) (n .1))
-    go false q n later = from-join d f (with e es) (n .0) (later q (n .1))
+    go false q n later = from-join d f (placed e es) (n .0) (later q (n .1))
 
 -- with e they are in order, if they were
-pub with-ordered : (e : Entry) (es : List Entry) → inOrder es ≡ true → inOrder (with e es) ≡ true
+pub placed-ordered : (e : Entry) (es : List Entry) → inOrder es ≡ true → inOrder (placed e es) ≡ true
 unfolding front behind inOrder orderedFrom
-with-ordered e [] h = refl
-with-ordered e (f ∷ es) h = go (before e f) refl
+placed-ordered e [] h = refl
+placed-ordered e (f ∷ es) h = go (before e f) refl
   where
     go : (b : Bool) → before e f ≡ b
         → inOrder (cond (not b) (f ∷ front (upTo e) es) [] ++ (e ∷ cond (not b) (behind (upTo e) es) (f ∷ es))) ≡ true
     go true q = from-join e f es (less-not-turned before-order e f q) h
-    go false q = with-from e f es q h
+    go false q = placed-from e f es q h

@@ -30,6 +30,16 @@ module _ (rule : Entry → Bool) where
       go true q h = rw q h
       go false q h = refl
 
+  -- entries that keep a rule, in front of others, come before all that these have up to the first that breaks it
+  pub split-over : (xs es : List Entry) → every rule xs ≡ true
+      → (front rule (xs ++ es) ≡ xs ++ front rule es) × (behind rule (xs ++ es) ≡ behind rule es)
+  unfolding every front behind
+  split-over [] es h = (refl, refl)
+  split-over (x ∷ xs) es h =
+      let p = and-eq-true-iff (rule x) (every rule xs) .0 h in
+      let q = split-over xs es (p .1) in
+      (rw (p .0, q .0), rw (p .0, q .1))
+
   -- those of two lists, one behind another
   pub those-append : (es fs : List Entry) → those rule (es ++ fs) ≡ those rule es ++ those rule fs
   unfolding those

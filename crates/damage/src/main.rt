@@ -1,7 +1,9 @@
 // Reads sound and damaged records and writes what each call answers: opening (the number of pointers, or the refusal), the patient
 // identifier's place and length, the rows whose rules are broken, each asked alone, the leads at places 0 to 3 with their samples, and the
-// auditor's index as it grows; at the end its bytes, and where the entries of 007 and of 7 are in it.
+// auditor's index as it grows; at the end its bytes, where the entries of 007 and of 7 are in it, and what merging it with itself, with a
+// damaged one, and into too little room answers.
 use fields::Place;
+use filing::Indexed;
 use leads::Lead;
 use libc::STDOUT_FILENO;
 
@@ -130,17 +132,29 @@ fn show_leads(rec: &[u8]) {
     }
 }
 
+// Shows how many bytes of an index are in use then, or the refusal; answered is how many are, where `used` were before.
+fn show_used(indexed: Indexed, used: usize) -> usize {
+    if indexed.refusal != 0 {
+        put_refusal(indexed.refusal);
+        return used;
+    }
+    put_number(indexed.used);
+    put(b" bytes\n");
+    indexed.used
+}
+
 // Adds the record to the index; answered is how many bytes of it are in use then.
 fn show_adding(rec: &[u8], index: &mut [u8], used: usize) -> usize {
     let added = filing::add(index, used, rec);
     put(b"  index: ");
-    if added.refusal != 0 {
-        put_refusal(added.refusal);
-        return used;
-    }
-    put_number(added.used);
-    put(b" bytes\n");
-    added.used
+    show_used(added, used)
+}
+
+// Merges two indexes; answered is how many bytes of the output are in use then.
+fn show_merging(a: &[u8], b: &[u8], out: &mut [u8]) -> usize {
+    let merged = merging::merge(a, b, out);
+    put(b"merged: ");
+    show_used(merged, 0)
 }
 
 fn show_index(index: &[u8], used: usize) {
@@ -212,4 +226,11 @@ fn main() {
     show_index(&index, used);
     show_entries(&index, used, b"007");
     show_entries(&index, used, b"7");
+    let whole = wire::part_of(&index, 0, used);
+    let mut both = [0u8; 512];
+    let end = show_merging(whole, whole, &mut both);
+    show_entries(&both, end, b"7");
+    show_merging(whole, wire::part_of(&index, 1, used), &mut both);
+    let mut little = [0u8; 200];
+    show_merging(whole, whole, &mut little);
 }

@@ -12,8 +12,7 @@ use Rattle.record.specs.Opening.{openRefusal, opens}
 use Rattle.fields.specs.Recording.{identifierOf, yearOf, monthOf, dayOf}
 use Rattle.entries.specs.Section3.{leadCount, section3Right}
 use Rattle.index.specs.Entry.{Entry, entryBytes, entrySize, dateRight}
-use Rattle.index.specs.Order.{before}
-use Rattle.index.specs.Index.{entriesIn, bytesIn, indexRight, front}
+use Rattle.index.specs.Index.{entriesIn, bytesIn, indexRight, front, upTo}
 use Rattle.filing.specs.declared.Indexed.{Indexed}
 
 -- 8: Section 3 is absent, or keeps its rule; of Sections 4 to 6 adding asks no more than opening does
@@ -51,9 +50,9 @@ addAnswer lent used r = record {
   used = cond (eqb (addRefusal lent used r) 0) (used + entrySize (entryOf r)) 0;
 }
 
--- an entry stands in front of the first that it comes before, so behind all that are not greater: this many bytes behind the start
+-- the place at which `placed` puts an entry in: this many bytes behind the start
 unfoldable pub placeFor : Entry → List Entry → ℕ
-placeFor e es = bytesIn (front (λ x. not (before e x)) es)
+placeFor e es = bytesIn (front (upTo e) es)
 
 -- the lent bytes with an entry put in at a place: what was in use from there on stands behind it, and the rest is as it was
 unfoldable pub putIn : List ℕ → ℕ → ℕ → Entry → List ℕ

@@ -8,8 +8,8 @@ ghost use Rattle.wire.specs.Numbers.{part};
 ghost use Rattle.record.specs.Opening.{openRefusal};
 ghost use Rattle.packing.specs.Packing.{packed};
 ghost use Rattle.index.specs.Entry.{headBits, entryBytes, entrySize};
-ghost use Rattle.index.specs.Index.{entriesIn};
-ghost use Rattle.index.specs.InnerSteps.{Whole};
+ghost use Rattle.index.specs.Index.{entriesIn, upTo};
+ghost use Rattle.index.specs.InnerSteps.{Whole, Passed};
 ghost use Rattle.filing.specs.Filing.{section3Kept, leadsOf, entryOf, dateKept, addRefusal, addAnswer, placeFor, putIn, indexAfter};
 ghost use Rattle.filing.specs.InnerFiling.{filed, dateOn};
 use index::Date;
@@ -95,12 +95,12 @@ fn entry_size(rec: &[u8]) -> usize
     index::HEAD_SIZE + fields::identifier_of(rec).len()
 }
 
-// The place of an entry among those of an index: in front of the first that it comes before.
-fn place_for(s: &[u8], id: &[u8], date: Date) -> usize
-    requires { ⌜ Whole (now s) 0 ⌝ }
-    ensures { λ r. ⌜ (r ≡ placeFor (filed (now (id .entry)) date 0) (entriesIn (now (s .entry)))) × (r ≤ length (now (s .entry))) ⌝ }
+// The place of an entry among those of an index from a place on: in front of the first that it comes before.
+pub fn place_for(s: &[u8], from: usize, id: &[u8], date: Date) -> usize
+    requires { ⌜ Whole (now s) from ⌝ }
+    ensures { λ r. ⌜ Passed (upTo (filed (now (id .entry)) date 0)) (now (s .entry)) from r ⌝ }
 {
-    let mut at = 0;
+    let mut at = from;
     while at < s.len() {
         let e = index::entry_at(s, at);
         let own = wire::part_of(s, e.start, e.next);
@@ -158,7 +158,7 @@ fn put_in(lent: &mut [u8], used: usize, rec: &[u8]) -> usize
     let id = fields::identifier_of(rec);
     let date = date_of(rec);
     let size = index::HEAD_SIZE + id.len();
-    let at = place_for(wire::part_of(lent, 0, used), id, date);
+    let at = place_for(wire::part_of(lent, 0, used), 0, id, date);
     let end = at + size;
     move_on(lent, at, used, size);
     put_entry(&mut lent[at..end], id, date, leads_of(rec));

@@ -13,7 +13,7 @@ use Rattle.index.specs.Entry.{Entry}
 use Rattle.index.specs.Order.{inOrder}
 use Rattle.index.specs.Index.{bytesIn, entriesIn, isIndex, indexRight, front, behind, smaller, has, partOrNone, found, findPlace}
 use Rattle.index.specs.InnerSteps.{Whole, Passed}
-use Rattle.index.proofs.Walk.{bytes-split}
+use Rattle.index.proofs.Walk.{bytes-split, index-whole}
 
 -- two walks, past the smaller identifiers and then past the identifier's own entries, find their place
 pub walks-find : (id s : List ℕ) (start end : ℕ) → Passed (smaller id) s 0 start → Passed (has id) s start end
@@ -27,13 +27,8 @@ walks-find id s start end p q =
 
 -- entries take up all bytes of an index, from the start and from where the first walk ends
 pub whole-index : (lent : List ℕ) (used : ℕ) → indexRight lent used ≡ true → Whole (take used lent) 0
-unfolding indexRight isIndex
-whole-index lent used h =
-    let s = take used lent in
-    let es = entriesIn s in
-    let i = and-eq-true-iff (leb used (length lent)) (isIndex s) .0 h .1 in
-    let n = eqb-true (bytesIn es) (length s) (and-eq-true-iff (eqb (bytesIn es) (length s)) (inOrder es) .0 i .0) in
-    omega (arith, n)
+unfolding indexRight
+whole-index lent used h = index-whole (take used lent) (and-eq-true-iff (leb used (length lent)) _ .0 h .1)
 
 pub whole-passed : (rule : Entry → Bool) (s : List ℕ) (from at : ℕ) → Passed rule s from at → Whole s from → Whole s at
 whole-passed rule s from at p w = rw (p .rest) (omega (arith, p .place, w, bytes-split rule (entriesIn (drop from s))))

@@ -1,4 +1,5 @@
 pub mod Heads
 pub mod Less
 pub mod Walk
+pub mod Bytes
 pub mod Found

@@ -9,7 +9,7 @@ use native.Mathlib.Nat.{zero-add, add-zero}
 use lib.Dec.{leb, eqb}
 use lib.ListN.{length, take, drop, length-drop}
 use lib.Seq.{drop-drop}
-use borrow.Author.Tests.{leb-true}
+use borrow.Author.Tests.{leb-true, eqb-true}
 use Rattle.index.specs.declared.IndexEntry.{IndexEntry}
 use Rattle.fields.specs.Identifier.{same}
 use Rattle.index.specs.Entry.{Entry, headSize, entrySize, headNumber, entryIn, entryRight, isEntry, shownAt, noneAt, entryAt}
@@ -136,6 +136,17 @@ module _ (rule : Entry → Bool) (s : List ℕ) where
   }
 
 -- ---- entries that take up all bytes
+
+-- those of an index do
+pub index-whole : (s : List ℕ) → isIndex s ≡ true → Whole s 0
+unfolding isIndex
+index-whole s h =
+    let n = bytesIn (entriesIn s) in omega (arith, eqb-true n (length s) (and-eq-true-iff (eqb n (length s)) _ .0 h .0))
+
+-- and they are in order
+pub index-ordered : (s : List ℕ) → isIndex s ≡ true → inOrder (entriesIn s) ≡ true
+unfolding isIndex
+index-ordered s h = and-eq-true-iff (eqb (bytesIn (entriesIn s)) (length s)) _ .0 h .1
 
 -- from a place before the end on there is one
 pub whole-entry : (s : List ℕ) (at : ℕ) → Whole s at → at < length s → isEntry (drop at s) ≡ true

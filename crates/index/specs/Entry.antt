@@ -2,7 +2,7 @@
 use Prim.Native.Nat.{ℕ, _+_}
 use mathlib.Core.Bool.{Bool, not, _&&_, cond}
 use mathlib.Core.List.{List, [], _∷_, _++_}
-use lib.Dec.{leb, eqb}
+use lib.Dec.{leb, ltb, eqb}
 use lib.ListN.{length, take, drop}
 use Rattle.wire.specs.Bounds.{mostLeads}
 use Rattle.wire.specs.RuleWords.{every}
@@ -55,6 +55,10 @@ zeroBit s = headNumber s 39 1
 -- a month is 1 to 12, a day 1 to 31
 unfoldable pub dateRight : ℕ → ℕ → Bool
 dateRight month day = leb 1 month && (leb month 12 && (leb 1 day && leb day 31))
+
+-- a year has room in its 16 bits
+abbrev pub yearFits : Entry → Bool
+yearFits e = ltb (e .year) 65536
 
 -- the rules of an entry: its identifier has 1 to 63 bytes, none of them NUL; its month and its day are right; it has 0 to 32 leads (0 where the
 -- record has no Section 3). The year is any

@@ -1,6 +1,6 @@
 -- What an index is, and looking up an identifier in it (02, Q-13).
 use Prim.Native.Nat.{ℕ, zero, suc, _+_}
-use mathlib.Core.Bool.{Bool, _&&_, cond}
+use mathlib.Core.Bool.{Bool, not, _&&_, cond}
 use mathlib.Core.List.{List, [], _∷_, _++_}
 use lib.Dec.{leb, eqb}
 use lib.ListN.{length, take, drop}
@@ -8,7 +8,7 @@ use Rattle.fields.specs.declared.Place.{Place}
 use Rattle.fields.specs.declared.Place.the-variants.{At, Refused}
 use Rattle.fields.specs.Identifier.{same}
 use Rattle.index.specs.Entry.{Entry, entryBytes, entrySize, entryIn, isEntry}
-use Rattle.index.specs.Order.{less, inOrder}
+use Rattle.index.specs.Order.{less, before, inOrder}
 
 -- the bytes of entries, one behind another, and how many these are
 unfoldable pub indexBytes : List Entry → List ℕ
@@ -44,6 +44,15 @@ front rule (e ∷ es) = cond (rule e) (e ∷ front rule es) []
 unfoldable pub behind : (Entry → Bool) → List Entry → List Entry
 behind rule [] = []
 behind rule (e ∷ es) = cond (rule e) (behind rule es) (e ∷ es)
+
+-- an entry that e does not come before, so one that is not greater
+abbrev pub upTo : Entry → Entry → Bool
+upTo e x = not (before e x)
+
+-- entries with e put in among them: in front of the first that it comes before; so, among entries in order, behind
+-- all that are not greater
+abbrev pub placed : Entry → List Entry → List Entry
+placed e es = front (upTo e) es ++ (e ∷ behind (upTo e) es)
 
 -- an entry of a smaller identifier than the one asked for, and one of this identifier, byte for byte
 abbrev pub smaller : List ℕ → Entry → Bool

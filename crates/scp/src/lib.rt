@@ -16,6 +16,7 @@ ghost use Rattle.compose.specs.Writing.{jobOf, RecordWriting};
 ghost use Rattle.index.specs.Entry.{entryAt};
 ghost use Rattle.index.specs.Index.{findPlace};
 ghost use Rattle.filing.specs.Filing.{addAnswer, indexAfter};
+ghost use Rattle.merging.specs.Merging.{mergeAnswer, mergedInto};
 ghost use Rattle.scp.specs.Boundary.{partAt, shown, oneIf};
 use compose::Head;
 use compose::Written;
@@ -241,6 +242,15 @@ pub extern "C" fn scp_index_add(index: &mut [u8], used: usize, rec: &[u8]) -> In
     ensures bytes { λ r. ⌜ now (index .exit) ≡ indexAfter (now (index .entry)) used (now (rec .entry)) ⌝ }
 {
     filing::add(index, used, rec)
+}
+
+// Merging two indexes, of which all bytes are in use, into the output.
+#[no_mangle]
+pub extern "C" fn scp_index_merge(a: &[u8], b: &[u8], out: &mut [u8]) -> Indexed
+    ensures answer { λ r. ⌜ r ≡ mergeAnswer (now (a .entry)) (now (b .entry)) (length (now (out .entry))) ⌝ }
+    ensures bytes { λ r. ⌜ now (out .exit) ≡ mergedInto (now (a .entry)) (now (b .entry)) (now (out .entry)) ⌝ }
+{
+    merging::merge(a, b, out)
 }
 
 // The entries of an identifier, which comes without its NUL, as a part of the index.

@@ -6,7 +6,7 @@ use mathlib.Core.List.{List, _++_}
 use native.Mathlib.Nat.{zero-add, add-zero, add-assoc}
 use native.Mathlib.Omega.{arith}
 use borrow.Author.Tests.{eq-eqb}
-use lib.ListN.{length, take, drop, length-take, length-drop, take-append-drop}
+use lib.ListN.{length, take, drop, take-append-drop}
 use lib.Seq.{length-take-le, drop-drop}
 use Rattle.wire.specs.Numbers.{numberAt, bytesOf, part}
 use Rattle.wire.specs.Check.{crcOf}
@@ -36,21 +36,17 @@ module _ {r : List ℕ} {start : ℕ} {x : List ℕ} (s : Stands r start x) wher
       rw (n, stands-cut s 2 (length x) h (omega arith), zero-add 2)
 
 -- a part that is cut out is one
-module _ (r : List ℕ) (a b : ℕ) (order : a ≤ b) (inside : b ≤ length r) where
-  pub part-stands : Stands r a (part r a b)
-  part-stands =
-      let e : a + (b - a) ≡ b = omega arith in
-      let rest : drop (b - a) (drop a r) ≡ drop b r = drop-drop (b - a) a r ∙ ap (λ (n : ℕ). drop n r) e in
-      let inner = sym (take-append-drop (b - a) (drop a r)) ∙ ap (λ (l : List ℕ). part r a b ++ l) rest in
-      record {
-        front = take a r;
-        rest = drop b r;
-        split = sym (take-append-drop a r) ∙ ap (λ (l : List ℕ). take a r ++ l) inner;
-        place = length-take-le a r (omega arith);
-      }
-
-  pub length-part : length (part r a b) ≡ b - a
-  length-part = simp (length-take, length-drop) (omega arith)
+pub part-stands : (r : List ℕ) (a b : ℕ) → a ≤ b → b ≤ length r → Stands r a (part r a b)
+part-stands r a b order inside =
+    let e : a + (b - a) ≡ b = omega arith in
+    let rest : drop (b - a) (drop a r) ≡ drop b r = drop-drop (b - a) a r ∙ ap (λ (n : ℕ). drop n r) e in
+    let inner = sym (take-append-drop (b - a) (drop a r)) ∙ ap (λ (l : List ℕ). part r a b ++ l) rest in
+    record {
+      front = take a r;
+      rest = drop b r;
+      split = sym (take-append-drop a r) ∙ ap (λ (l : List ℕ). take a r ++ l) inner;
+      place = length-take-le a r (omega arith);
+    }
 
 -- ---- bytes with their check in front
 

@@ -11,11 +11,11 @@ use lib.ListN.{length}
 use Rattle.wire.specs.Numbers.{numberAt, part}
 use Rattle.wire.specs.RuleWords.{allIn}
 use Rattle.wire.proofs.Laws.{unlike}
-use Rattle.wire.proofs.Places.{Stands}
+use Rattle.wire.proofs.Places.{Stands, part-length}
 use Rattle.pointers.specs.Pointers.{section0Length, idOf, lengthOf, indexOf, startOf, endOf, sectionOf}
 use Rattle.record.specs.RecordRules.{holdsCheck, placeRight, headerRepeats, sectionsApart, placedRight, sectionCheckRight}
 use Rattle.sections.specs.Sections.{usable, sectionAt}
-use Rattle.sections.proofs.Parts.{stands-number, stands-check, part-stands, length-part}
+use Rattle.sections.proofs.Parts.{stands-number, stands-check, part-stands}
 use Rattle.sections.proofs.Sound.{Sound, sound-usable}
 
 -- ---- rule 4
@@ -81,7 +81,7 @@ module _ (r : List ℕ) (k : ℕ) (cases : (lengthOf r k ≡ 0) ⊎ Placed r k) 
     where
       go : (lengthOf r k ≡ 0) ⊎ Placed r k → length (part r (startOf r k) (endOf r k)) ≡ lengthOf r k
       go (inl e) = let n : endOf r k - startOf r k ≡ 0 = omega (arith, e) in rw (n, e)
-      go (inr p) = length-part r (startOf r k) (endOf r k) (omega arith) (p .inside) ∙ omega arith
+      go (inr p) = part-length r (startOf r k) (endOf r k) (p .inside) ∙ omega arith
 
   -- it is sound where it is present and its check is right
   section-sound : sectionCheckRight r k ≡ true → Placed r k → Sound (idOf r k) (sectionOf r k)

@@ -39,7 +39,7 @@ module _ {A : Type 0} (rule : A → Bool) where
   every-parts x xs h = and-eq-true-iff (rule x) (every rule xs) .0 h
 
   -- where two lists together keep it, each does
-  every-split : (a b : List A) → every rule (a ++ b) ≡ true → (every rule a ≡ true) × (every rule b ≡ true)
+  pub every-split : (a b : List A) → every rule (a ++ b) ≡ true → (every rule a ≡ true) × (every rule b ≡ true)
   unfolding every
   every-split [] b h = (refl, h)
   every-split (x ∷ a) b h =

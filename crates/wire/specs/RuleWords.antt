@@ -2,7 +2,7 @@
 use Prim.Native.Nat.{ℕ, zero, suc, _+_, _-_}
 use mathlib.Core.Bool.{Bool, true, _&&_, cond}
 use mathlib.Core.List.{List, [], _∷_}
-use lib.Dec.{leb}
+use lib.Dec.{leb, ltb}
 use lib.ListN.{length}
 
 -- p holds of n numbers, from k on
@@ -18,6 +18,10 @@ allIn from to p = each (to - from) from p
 unfoldable pub every : {A : Type 0} → (A → Bool) → List A → Bool
 every rule [] = true
 every rule (x ∷ xs) = rule x && every rule xs
+
+-- numbers that are bytes, as those of every lent `[u8]` are
+abbrev pub areBytes : List ℕ → Bool
+areBytes s = every (λ b. ltb b 256) s
 
 -- bytes end at a place, with at most `spare` bytes behind it: 1 in a record, 0 in what the writer is given
 unfoldable pub endsBy : ℕ → List ℕ → ℕ → Bool

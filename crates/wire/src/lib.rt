@@ -1,18 +1,31 @@
 // Numbers in bytes and the check over bytes (01, The record): what every other chapter reads and writes with.
 // Every public read answers for any place: a byte past the end counts as 0, and a part is what is there of it.
 ghost use mathlib.Core.Path.{_≡_};
+ghost use mathlib.Core.Bool.{true};
 ghost use mathlib.Core.List.{_++_};
 ghost use Prim.Native.Nat.{ℕ, _+_, _^_, _≤_, _<_};
 ghost use lib.ListN.{length, take, drop};
 ghost use Rattle.wire.specs.Numbers.{byteAt, numberAt, bytesOf, part};
 ghost use Rattle.wire.specs.Check.{crcByte, crcFrom, crcOf};
 ghost use Rattle.wire.specs.InnerCheck.{fed, fedAll, wordsIn, quotient as quotientOf};
-ghost use Rattle.wire.specs.RuleWords.{endsBy};
+ghost use Rattle.wire.specs.RuleWords.{areBytes, endsBy};
 
 // The most bytes that a record may have, and the most samples that a lead or a beat may have (01, Numbers that bound the work).
 pub const MOST_BYTES: usize = 1048576;
 
 pub const MOST_SAMPLES: usize = 65536;
+
+// Bytes that are lent are bytes. Each is looked at, since the checker says of an element what its type says where it is read; the compiler
+// leaves no code of it.
+pub fn bytes_fit(s: &[u8])
+    ensures { λ _. ⌜ areBytes (now (s .entry)) ≡ true ⌝ }
+{
+    let mut i = 0;
+    while i < s.len() {
+        let _byte = s[i];
+        i += 1;
+    }
+}
 
 // The byte at a place, as a number.
 pub fn byte(s: &[u8], i: usize) -> usize

@@ -35,27 +35,28 @@ impl Table {
         Table { rounds }
     }
 
-    /// Measures the library and plain Rust by the processor's time.
+    /// Measures the library and plain Rust by the processor's time; the seconds that the library takes.
     pub fn line(
         &mut self,
         name: &str,
         amount: (usize, &str),
         library: impl FnMut(),
         plain: impl FnMut(),
-    ) {
+    ) -> f64 {
         let sides = [Side::new(library), Side::new(plain)];
-        self.line_by(Clock::Thread, name, amount, sides);
+        self.line_by(Clock::Thread, name, amount, sides)
     }
 
     /// Measures the library's side and the plain one in turns, and shows the time that each takes for the work once, their
-    /// ratio (over 1: the library takes longer), and how much of some unit the library does in a second.
+    /// ratio (over 1: the library takes longer), and how much of some unit the library does in a second. The answer is the
+    /// library's time.
     pub fn line_by(
         &mut self,
         clock: Clock,
         name: &str,
         (amount, unit): (usize, &str),
         mut sides: [Side; 2],
-    ) {
+    ) -> f64 {
         let mut works: Vec<&mut Work> = sides.iter_mut().flat_map(Side::works).collect();
         let once: f64 = works.iter_mut().map(|work| work.warm_up(clock)).sum();
         let number = match once > LONG {
@@ -73,6 +74,7 @@ impl Table {
             library / plain,
             amount as f64 / library / 1e6
         );
+        library
     }
 
     /// Says why a line is left out.
@@ -190,8 +192,9 @@ fn median(mut times: Vec<f64>) -> f64 {
 }
 
 /// Seconds in the unit that suits them.
-fn shown(seconds: f64) -> String {
+pub fn shown(seconds: f64) -> String {
     match seconds {
+        s if s < 1e-6 => format!("{:.1} ns", s * 1e9),
         s if s < 1e-3 => format!("{:.1} us", s * 1e6),
         s if s < 1.0 => format!("{:.2} ms", s * 1e3),
         s => format!("{s:.2} s"),

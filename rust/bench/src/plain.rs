@@ -125,20 +125,25 @@ pub fn date(year: u16, month: u8, day: u8) -> u32 {
 impl<'a> Entry<'a> {
     /// The entry that these bytes begin with, if it is whole and keeps the rules.
     pub fn first_of(bytes: &'a [u8]) -> Option<Entry<'a>> {
+        let entry = Entry::unjudged(bytes)?;
+        let (month, day) = (entry.date >> 5 & 0xF, entry.date & 0x1F);
+        let is_dated = (1..=12).contains(&month) && day != 0;
+        let is_named = !entry.identifier.is_empty() && !entry.identifier.contains(&0);
+        let keeps_the_rules =
+            is_dated && is_named && entry.leads <= 32 && bytes[FIXED - 1] & 1 == 0;
+        keeps_the_rules.then_some(entry)
+    }
+
+    /// The entry that these bytes begin with, if it is whole.
+    fn unjudged(bytes: &'a [u8]) -> Option<Entry<'a>> {
         let (fixed, rest) = bytes.split_first_chunk::<FIXED>()?;
         let bits = fixed
             .iter()
             .fold(0, |bits, &byte| bits << 8 | u64::from(byte));
-        let identifier = rest.get(..(bits >> 34) as usize)?;
-        let (date, leads) = ((bits >> 9) as u32 & 0x1FF_FFFF, (bits >> 1) as u8);
-        let (month, day) = (date >> 5 & 0xF, date & 0x1F);
-        let is_dated = (1..=12).contains(&month) && day != 0;
-        let is_named = !identifier.is_empty() && !identifier.contains(&0);
-        let keeps_the_rules = is_dated && is_named && leads <= 32 && bits & 1 == 0;
-        keeps_the_rules.then_some(Entry {
-            identifier,
-            date,
-            leads,
+        Some(Entry {
+            identifier: rest.get(..(bits >> 34) as usize)?,
+            date: (bits >> 9) as u32 & 0x1FF_FFFF,
+            leads: (bits >> 1) as u8,
         })
     }
 
@@ -161,9 +166,17 @@ impl<'a> Entry<'a> {
 
     /// Its bytes.
     pub fn bytes(&self) -> Vec<u8> {
+        let mut bytes = Vec::with_capacity(self.size());
+        self.put(&mut bytes);
+        bytes
+    }
+
+    /// Puts its bytes behind these.
+    fn put(&self, bytes: &mut Vec<u8>) {
         let length = self.identifier.len() as u64;
         let bits = length << 34 | u64::from(self.date) << 9 | u64::from(self.leads) << 1;
-        [&bits.to_be_bytes()[8 - FIXED..], self.identifier].concat()
+        bytes.extend_from_slice(&bits.to_be_bytes()[8 - FIXED..]);
+        bytes.extend_from_slice(self.identifier);
     }
 
     fn size(&self) -> usize {
@@ -218,6 +231,43 @@ pub fn index_add(index: &mut [u8], used: usize, record: &[u8]) -> Option<usize> 
     Some(used + new.size())
 }
 
+/// Merges two indexes into the output, and answers how many bytes both have; `None` if either is no index or there is no room.
+/// Entries of the first stand before those of the second with the same key.
+pub fn index_merge(a: &[u8], b: &[u8], out: &mut [u8]) -> Option<usize> {
+    judged(a, |_, _| {})?;
+    judged(b, |_, _| {})?;
+    let out = out.get_mut(..a.len() + b.len())?;
+    let (mut from_a, mut from_b) = (0, 0);
+    let mut next = Entry::unjudged(a);
+    while let (Some(_), Some(other)) = (&next, Entry::unjudged(&b[from_b..])) {
+        let start = from_a;
+        while let Some(one) = next.as_ref().filter(|one| one.key() <= other.key()) {
+            from_a += one.size();
+            next = Entry::unjudged(&a[from_a..]);
+        }
+        out[start + from_b..from_a + from_b].copy_from_slice(&a[start..from_a]);
+        let end = from_b + other.size();
+        out[from_a + from_b..from_a + end].copy_from_slice(&b[from_b..end]);
+        from_b = end;
+    }
+    let (rest_of_a, rest_of_b) = out[from_a + from_b..].split_at_mut(a.len() - from_a);
+    rest_of_a.copy_from_slice(&a[from_a..]);
+    rest_of_b.copy_from_slice(&b[from_b..]);
+    Some(out.len())
+}
+
+/// The index of entries that come in any order: a stable sort, and one laid out behind the other. `None` if one is no entry.
+pub fn index_sorted<'a>(arrivals: impl ExactSizeIterator<Item = &'a [u8]>) -> Option<Vec<u8>> {
+    let mut entries = Vec::with_capacity(arrivals.len());
+    for arrival in arrivals {
+        entries.push(Entry::first_of(arrival)?);
+    }
+    entries.sort_by_key(Entry::key);
+    let mut index = Vec::with_capacity(entries.iter().map(Entry::size).sum());
+    entries.iter().for_each(|entry| entry.put(&mut index));
+    Some(index)
+}
+
 /// The entries of an index by steps, their order not judged.
 pub fn index_entries(index: &[u8]) -> impl Iterator<Item = Entry<'_>> {
     let mut rest = index;
@@ -230,7 +280,7 @@ pub fn index_entries(index: &[u8]) -> impl Iterator<Item = Entry<'_>> {
 
 #[cfg(test)]
 mod tests {
-    use super::{date, index_find, Crc, Entry, Greedy};
+    use super::{date, index_find, index_merge, index_sorted, Crc, Entry, Greedy};
 
     #[test]
     fn entries_of_an_index() {
@@ -249,6 +299,39 @@ mod tests {
         assert_eq!(index_find(&index, b"7"), Some(16..22));
         assert_eq!(index_find(&index, b"8"), Some(0..0));
         assert_eq!(index_find(&[&seven[..], &bytes].concat(), b"7"), None);
+    }
+
+    #[test]
+    fn indexes_become_one() {
+        let entry = |identifier, day, leads| {
+            let date = date(2024, 3, day);
+            let entry = Entry {
+                identifier,
+                date,
+                leads,
+            };
+            entry.bytes()
+        };
+        let [first, second] = [entry(b"1", 1, 3), entry(b"1", 1, 2)];
+        let [third, fourth] = [entry(b"1", 2, 1), entry(b"12", 1, 0)];
+        let all = [&first[..], &second, &third, &fourth].concat();
+        let [odd, even] = [
+            [&first[..], &third].concat(),
+            [&second[..], &fourth].concat(),
+        ];
+        let (mut out, length) = ([0; 26], all.len());
+        assert_eq!(index_merge(&odd, &even, &mut out), Some(length));
+        assert_eq!(out[..length], all);
+        assert_eq!(index_merge(&odd, &even, &mut out[1..length]), None);
+        assert_eq!(index_merge(&all[12..], &all[..12], &mut out), Some(length));
+        assert_eq!(out[..length], all);
+        assert_eq!(
+            index_merge(&[&third[..], &first].concat(), &[], &mut out),
+            None
+        );
+        let arrivals = [&fourth[..], &first, &third, &second];
+        assert_eq!(index_sorted(arrivals.into_iter()), Some(all));
+        assert_eq!(index_sorted([&first[1..]].into_iter()), None);
     }
 
     #[test]

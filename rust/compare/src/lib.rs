@@ -4,7 +4,8 @@
 //! ([`edges`]) and at their ends ([`extremes`]); every call is made by both on each of them, in memory with guards around
 //! it ([`calls`], [`encoding`], [`writing`], [`index`]); and every answer is counted ([`tally`], [`writing::counts`]). On tiny
 //! leads the encoder is held against all streams that there are ([`encoding::brute`]); what is written is read back; an index
-//! to which records were added one by one is held against the one that is built afresh from them.
+//! to which records were added one by one is held against the one that is built afresh from them, and against the one that is
+//! merged from indexes of runs of them.
 
 mod answers;
 mod beaten;
@@ -31,11 +32,11 @@ use tally::Tally;
 
 /// One input in this many comes with a lead to encode.
 const LEADS: u64 = 4;
-/// One input in this many comes with records to build an index from.
+/// One input in this many comes with records to build an index from, and with indexes to merge.
 const INDEXES: u64 = 8;
 
-/// Compares on `count` inputs that the seed fixes, on leads to encode and on records to build indexes from. The counts, or what
-/// differs first and on which input.
+/// Compares on `count` inputs that the seed fixes, on leads to encode, on records to build indexes from and on indexes to
+/// merge. The counts, or what differs first and on which input.
 pub fn run(seed: u64, count: u64) -> Result<Tally, String> {
     let mut tally = Tally::default();
     for number in 0..count {
@@ -55,6 +56,9 @@ pub fn run(seed: u64, count: u64) -> Result<Tally, String> {
             let records = make::to_index(&mut rng);
             index::build(&records, &mut rng, &mut tally).map_err(|difference| {
                 format!("seed {seed}, index to build with input {number}: {difference}")
+            })?;
+            index::merging::compare(&mut rng, &mut tally).map_err(|difference| {
+                format!("seed {seed}, indexes to merge with input {number}: {difference}")
             })?;
         }
     }

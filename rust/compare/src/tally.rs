@@ -42,6 +42,21 @@ pub enum Call {
     IndexStep,
     /// `scp_index_step`, with none shown
     IndexStepNone,
+    /// `scp_index_merge`
+    IndexMerge,
+}
+
+/// Entries that were put into an index, and where.
+#[derive(Clone, Copy, Debug, Default, PartialEq, Eq)]
+pub struct Put {
+    /// All of them.
+    pub entries: u64,
+    /// Those that were put before others.
+    pub before: u64,
+    /// Those that were put behind an equal one, which has another number of leads.
+    pub behind_equal: u64,
+    /// Those of an identifier that begins another one's, or begins with it.
+    pub begun: u64,
 }
 
 /// Indexes that were built from records, one by one and afresh.
@@ -50,13 +65,22 @@ pub struct Built {
     /// How many.
     pub indexes: u64,
     /// The entries that were added to them.
-    pub entries: u64,
-    /// Entries that were put before others.
-    pub before: u64,
-    /// Entries that were put behind an equal one, which has another number of leads.
-    pub behind_equal: u64,
-    /// Entries of an identifier that begins another one's, or begins with it.
-    pub begun: u64,
+    pub put: Put,
+}
+
+/// Indexes that were merged.
+#[derive(Clone, Copy, Debug, Default, PartialEq, Eq)]
+pub struct Merged {
+    /// How many pairs of sound ones.
+    pub pairs: u64,
+    /// Pairs of which one or both are empty.
+    pub empty: u64,
+    /// Pairs of which one is much longer than the other, which is not empty.
+    pub longer: u64,
+    /// The entries of the second ones, put into the first ones.
+    pub put: Put,
+    /// Indexes that were made of two or more runs of records.
+    pub in_runs: u64,
 }
 
 /// How many inputs of each kind there were, and how often each call answered what.
@@ -70,6 +94,8 @@ pub struct Tally {
     bits: u64,
     /// The indexes that were built.
     pub built: Built,
+    /// The indexes that were merged.
+    pub merged: Merged,
 }
 
 impl Tally {
@@ -116,6 +142,16 @@ impl Tally {
     }
 }
 
+impl fmt::Display for Put {
+    fn fmt(&self, f: &mut fmt::Formatter<'_>) -> fmt::Result {
+        write!(
+            f,
+            "{} entries ({} before others, {} behind an equal one, {} begin another or with it)",
+            self.entries, self.before, self.behind_equal, self.begun
+        )
+    }
+}
+
 impl fmt::Display for Tally {
     fn fmt(&self, f: &mut fmt::Formatter<'_>) -> fmt::Result {
         let total: u64 = self.inputs.values().sum();
@@ -136,11 +172,17 @@ impl fmt::Display for Tally {
             "compare: {} leads to encode, streams of {} bits in all",
             self.to_encode, self.bits
         )?;
-        let built = self.built;
+        let (built, merged) = (self.built, self.merged);
+        writeln!(f, "compare: {} indexes built, {}", built.indexes, built.put)?;
         writeln!(
             f,
-            "compare: {} indexes built, {} entries ({} before others, {} behind an equal one, {} begin another or with it)",
-            built.indexes, built.entries, built.before, built.behind_equal, built.begun
+            "compare: {} pairs of indexes merged ({} with an empty one, {} with a much longer one), {}",
+            merged.pairs, merged.empty, merged.longer, merged.put
+        )?;
+        writeln!(
+            f,
+            "compare: {} indexes made of two or more runs of records",
+            merged.in_runs
         )?;
         write!(
             f,

@@ -1,6 +1,7 @@
-//! The library against the judge on 20,480 inputs, 5,120 leads to encode and 2,560 indexes to build, always the same; every row
-//! of the table that each call can give is reached. Then the encoder against all streams, on 40,000 sets of small tables; then
-//! the writer on 10,240 jobs, every refusal reached. It has no test harness, so that its counts are always shown.
+//! The library against the judge on 20,480 inputs, 5,120 leads to encode, 2,560 indexes to build and as many pairs of indexes
+//! to merge, always the same; every row of the table that each call can give is reached. Then the encoder against all streams,
+//! on 40,000 sets of small tables; then the writer on 10,240 jobs, every refusal reached. It has no test harness, so that its
+//! counts are always shown.
 
 use std::process::exit;
 
@@ -16,9 +17,11 @@ const JOBS: u64 = 10_240;
 const ENOUGH: u64 = 10_000;
 /// At least this many entries are put where the order of an index is easily got wrong.
 const ENOUGH_ENTRIES: u64 = 1_000;
+/// At least this many pairs to merge have an empty index, as many a much longer one, and as many indexes are made of runs.
+const ENOUGH_INDEXES: u64 = 200;
 
 /// The answers that each call can give: 0, and the refusals.
-const ROWS: [(Call, &[u8]); 14] = [
+const ROWS: [(Call, &[u8]); 15] = [
     (Call::Open, &[0, 1, 2, 3, 4, 5, 6]),
     (Call::Field, &[0, 1, 2, 3, 4, 5, 6, 10]),
     (Call::WalkStart, &[0, 1, 2, 3, 4, 5, 6]),
@@ -36,6 +39,7 @@ const ROWS: [(Call, &[u8]); 14] = [
     (Call::IndexFindNothing, &[0]),
     (Call::IndexStep, &[0]),
     (Call::IndexStepNone, &[0]),
+    (Call::IndexMerge, &[0, 11, 26]),
 ];
 
 /// What a run has not met, if there is something.
@@ -46,10 +50,16 @@ fn not_met(tally: &Tally) -> Option<String> {
             return Some(format!("{call:?} never answered {missing:?}"));
         }
     }
-    let built = tally.built;
-    let special = [built.before, built.behind_equal, built.begun];
-    let enough = special.iter().all(|&count| count >= ENOUGH_ENTRIES);
-    (!enough).then(|| "indexes: too few entries of some kind".to_string())
+    let (built, merged) = (tally.built, tally.merged);
+    for put in [built.put, merged.put] {
+        let special = [put.before, put.behind_equal, put.begun];
+        if special.iter().any(|&count| count < ENOUGH_ENTRIES) {
+            return Some("indexes: too few entries of some kind".to_string());
+        }
+    }
+    let special = [merged.empty, merged.longer, merged.in_runs];
+    let enough = special.iter().all(|&count| count >= ENOUGH_INDEXES);
+    (!enough).then(|| "merging: too few indexes of some kind".to_string())
 }
 
 fn main() {

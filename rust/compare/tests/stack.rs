@@ -6,7 +6,7 @@ use std::thread;
 
 use compare::encoding::{self, Job};
 use compare::extremes;
-use compare::index;
+use compare::index::{self, merging};
 use compare::inputs::{self, Kind};
 use compare::largest::{largest, Filling};
 use compare::writing::{self, counts::Counts, edges};
@@ -184,12 +184,34 @@ fn indexed_on_a_small_stack(index: &[u8], identifiers: &[&str]) {
     assert_eq!(answer, Ok(()));
 }
 
+/// Merges two indexes on a small stack, with just enough room and with one byte less, and holds the answers to the judge's.
+/// What is lent is not on the stack.
+fn merged_on_a_small_stack(a: &[u8], b: &[u8]) {
+    let both = a.len() + b.len();
+    let merged = judge::index_merge(a, b, both);
+    assert!(merged.is_ok());
+    let calls = || {
+        let rng = &mut Rng::new(5);
+        merging::by_library(a, b, both, &merged, rng)?;
+        merging::by_library(a, b, both - 1, &Err(row::ROOM), rng)
+    };
+    let answer = thread::scope(|scope| {
+        let thread = thread::Builder::new().stack_size(STACK);
+        thread.spawn_scoped(scope, calls).unwrap().join().unwrap()
+    });
+    assert_eq!(answer, Ok(()));
+}
+
 #[test]
 fn large_indexes_fit_a_small_stack() {
     let many_people = large(|number| format!("{:06}", 2 * number + 2));
     indexed_on_a_small_stack(&many_people, &["0", "200000", "200001", "400001"]);
     let one_person = large(|_| "007".to_string());
     indexed_on_a_small_stack(&one_person, &["00", "007"]);
+    let others = large(|number| format!("{:06}", 2 * number + 1));
+    merged_on_a_small_stack(&many_people, &others);
+    merged_on_a_small_stack(&one_person, &one_person);
+    merged_on_a_small_stack(&one_person, &many_people[many_people.len() - 11..]);
 }
 
 // ---- leads

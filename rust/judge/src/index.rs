@@ -1,8 +1,8 @@
-//! The auditor's index: entries packed into bytes, kept sorted in a lent buffer, and found again
-//! (02, Q-13).
+//! The auditor's index: entries packed into bytes, kept sorted in a lent buffer, found again
+//! (02, Q-13), and merged with those of another index.
 //!
-//! Every call but a step takes all bytes in use apart into entries and judges them. Adding lays all
-//! entries out anew; nothing is moved in place.
+//! Every call but a step takes all bytes in use apart into entries and judges them. Adding and
+//! merging sort all entries and lay them out anew; nothing is moved in place.
 
 use crate::bounds;
 use crate::header::{self, steps};
@@ -156,8 +156,20 @@ pub fn index_add(index: &[u8], used: usize, record: &[u8]) -> Result<Vec<u8>, u8
     let steps = judged(index, used)?;
     let mut entries: Vec<_> = steps.iter().map(|step| step.entry).collect();
     entries.push(index_entry(record)?);
-    let bytes = laid_out(entries);
-    if bytes.len() > index.len() {
+    within(index.len(), laid_out(entries))
+}
+
+/// The index of all entries of two, whose bytes are all in use: equal ones of the first come first.
+/// The order is 26 and 11.
+pub fn index_merge(a: &[u8], b: &[u8], room: usize) -> Result<Vec<u8>, u8> {
+    let steps = [judged(a, a.len())?, judged(b, b.len())?].concat();
+    let entries = steps.iter().map(|step| step.entry).collect();
+    within(room, laid_out(entries))
+}
+
+/// These bytes, if there is room for them; else 11.
+fn within(room: usize, bytes: Vec<u8>) -> Result<Vec<u8>, u8> {
+    if bytes.len() > room {
         return Err(row::ROOM);
     }
     Ok(bytes)

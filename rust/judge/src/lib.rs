@@ -40,7 +40,7 @@ pub use finding::{
     ZoneFault,
 };
 pub use header::{same_identifier, walk_step, Step};
-pub use index::{built_index, index_add, index_entry, index_find, index_step};
+pub use index::{built_index, index_add, index_entry, index_find, index_merge, index_step};
 pub use index::{IndexEntry, IndexStep};
 pub use judging::{breaks, findings};
 pub use opening::{field, open, walk_start};

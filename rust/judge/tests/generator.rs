@@ -2,7 +2,8 @@
 //! table is reached.
 
 use judge::make::{self, Rng};
-use judge::{breaks, encode_lead, index_add, lead, open, read_lead, row, write_record};
+use judge::{breaks, encode_lead, lead, open, read_lead, row, write_record};
+use judge::{index_add, index_merge, index_step};
 
 /// Room for any lead and any beat.
 const ROOM: usize = 65_536;
@@ -120,4 +121,26 @@ fn every_row_of_the_index_is_reached() {
     for row in [0, 1, 2, 3, 4, 5, 6, 8, 11, 24, 26] {
         assert!(counts[row] > 50, "row {row} of {counts:?}");
     }
+}
+
+#[test]
+fn pairs_of_indexes_are_of_every_kind() {
+    let entries = |index: &[u8]| {
+        let first = index_step(index, 0);
+        std::iter::successors(first, |step| index_step(index, step.next)).count()
+    };
+    let (mut empty, mut longer, mut apart, mut changed) = (0, 0, 0, 0);
+    for seed in 0..2_000 {
+        let [a, b] = make::two_indexes(&mut Rng::new(seed));
+        let merged = index_merge(&a, &b, a.len() + b.len()).expect("both are indexes");
+        let [fewer, more] = [&a, &b].map(|index| entries(index));
+        let (fewer, more) = (fewer.min(more), fewer.max(more));
+        empty += usize::from(fewer == 0 && more > 0);
+        longer += usize::from(fewer > 0 && more > 20 * fewer);
+        apart += usize::from(fewer > 0 && (merged == [&a[..], &b].concat()));
+        changed += usize::from(merged != index_merge(&b, &a, merged.len()).unwrap_or_default());
+    }
+    let counts = [empty, longer, apart, changed];
+    println!("{counts:?}");
+    assert!(counts.iter().all(|&count| count > 50), "{counts:?}");
 }

@@ -1,7 +1,8 @@
-//! The auditor's index, rule by rule (02, Q-13). Bytes of entries are written out by hand.
+//! The auditor's index, rule by rule (02, Q-13), and merging. Bytes of entries are written out by
+//! hand.
 
 use judge::make::{self, mend, mend_size, Rng};
-use judge::{built_index, index_add, index_entry, index_find, index_step, row};
+use judge::{built_index, index_add, index_entry, index_find, index_merge, index_step, row};
 
 /// A date that all entries can have: 14 March 2024, as tag 25 has it.
 const DATE: [u8; 4] = [0xE8, 0x07, 3, 14];
@@ -327,6 +328,74 @@ fn one_by_one_is_built_afresh() {
         entries += steps(&index).count();
     }
     assert!(entries > 2_000, "{entries}");
+}
+
+#[test]
+fn two_are_merged() {
+    let both = [&OF_007[..], &OF_7].concat();
+    assert_eq!(index_merge(&OF_7, &OF_007, 14), Ok(both.clone()));
+    assert_eq!(index_merge(&OF_007, &OF_7, 15), Ok(both.clone()));
+    let with_itself = [&OF_007[..], &OF_007, &OF_7, &OF_7].concat();
+    assert_eq!(index_merge(&both, &both, 28), Ok(with_itself));
+    assert_eq!(index_merge(&both, &[], 14), Ok(both.clone()));
+    assert_eq!(index_merge(&[], &both, 14), Ok(both));
+    assert_eq!(index_merge(&[], &[], 0), Ok(vec![]));
+}
+
+#[test]
+fn equal_ones_of_the_first_come_first() {
+    let of = |leads: &[usize]| {
+        let records = leads.iter().map(|&leads| record(b"A", DATE, leads));
+        records.collect::<Vec<_>>()
+    };
+    let (one, other) = (added(&of(&[12, 0, 3])), added(&of(&[1, 32, 3, 2])));
+    let later = added(&[record(b"A", [0xE8, 7, 3, 15], 8), record(b"B", DATE, 7)]);
+    let leads = |a: &[u8], b: &[u8]| {
+        let merged = index_merge(a, b, 99).expect("both are indexes");
+        let leads: Vec<_> = steps(&merged).map(|step| step.entry.leads).collect();
+        leads
+    };
+    assert_eq!(leads(&one, &other), [12, 0, 3, 1, 32, 3, 2]);
+    assert_eq!(leads(&other, &one), [1, 32, 3, 2, 12, 0, 3]);
+    let other = [other, later].concat();
+    assert_eq!(leads(&one, &other), [12, 0, 3, 1, 32, 3, 2, 8, 7]);
+    assert_eq!(leads(&other, &one), [1, 32, 3, 2, 12, 0, 3, 8, 7]);
+}
+
+#[test]
+fn merging_is_refused_in_its_order() {
+    let (sound, broken) = ([OF_007, OF_007].concat(), [&OF_7[..], &OF_007].concat());
+    for room in [0, 29, 30, 99] {
+        assert_eq!(index_merge(&sound, &broken, room), Err(row::INDEX));
+        assert_eq!(index_merge(&broken, &sound, room), Err(row::INDEX));
+        assert_eq!(index_merge(&broken, &broken, room), Err(row::INDEX));
+        assert_eq!(index_merge(&sound, &sound[1..], room), Err(row::INDEX));
+        assert_eq!(index_merge(&sound[..15], &[], room), Err(row::INDEX));
+    }
+    for (room, answer) in [(0, 11), (8, 11), (21, 11), (22, 0), (23, 0)] {
+        let number = index_merge(&sound, &OF_7, room).err().unwrap_or(0);
+        assert_eq!(number, answer, "room {room}");
+    }
+}
+
+#[test]
+fn runs_merged_are_built_afresh() {
+    let mut merges = 0;
+    for seed in 0..400 {
+        let rng = &mut Rng::new(seed);
+        let records = make::to_index(rng);
+        let records: Vec<_> = records.iter().map(Vec::as_slice).collect();
+        let (mut index, mut left) = (Vec::new(), &records[..]);
+        while !left.is_empty() {
+            let (run, behind) = left.split_at(rng.within(1..=left.len()));
+            let more = built_index(run.iter().copied());
+            let room = index.len() + more.len();
+            index = index_merge(&index, &more, room).expect("both are indexes");
+            (left, merges) = (behind, merges + 1);
+        }
+        assert_eq!(index, built_index(records));
+    }
+    assert!(merges > 800, "{merges}");
 }
 
 #[test]

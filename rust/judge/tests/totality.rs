@@ -2,7 +2,7 @@
 
 use judge::make::{self, Rng};
 use judge::{breaks, field, lead, open, read_lead, row, walk_start, walk_step};
-use judge::{index_add, index_entry, index_find, index_step};
+use judge::{index_add, index_entry, index_find, index_merge, index_step};
 
 /// Every call on these bytes.
 fn call_all(rng: &mut Rng, bytes: &[u8]) {
@@ -59,6 +59,15 @@ fn call_index(rng: &mut Rng, bytes: &[u8]) {
         let added = index_add(bytes, used, bytes);
         assert_eq!(found.is_err(), added == Err(row::INDEX));
         assert!(used <= bytes.len() || found == Err(row::INDEX));
+    }
+    let refused = index_find(bytes, bytes.len(), b"7").err();
+    let both = index.len() + bytes.len();
+    for (a, b) in [(bytes, &index[..]), (&index, bytes)] {
+        let merged = index_merge(a, b, both);
+        assert_eq!(merged.as_ref().err(), refused.as_ref());
+        assert!(merged.is_ok_and(|merged| merged.len() == both) || refused.is_some());
+        let short = index_merge(a, b, both.saturating_sub(1)).err();
+        assert!(short == refused.or(Some(row::ROOM)) || both == 0);
     }
 }
 

@@ -47,6 +47,15 @@ pub fn index_add(index: &mut [u8], used: usize, record: &[u8]) -> Result<usize, 
     Refusal::or(indexed.refusal, indexed.used)
 }
 
+/// Merges two indexes, all of both in use, and answers how many bytes of the output are then the index of both. Entries of `a`
+/// stand before those of `b` that have the same identifier and date. The other bytes of the output are not changed.
+///
+/// Refused with 26 if either is no index, then with 11 if the output has fewer bytes than both; it is then as it was.
+pub fn index_merge(a: &[u8], b: &[u8], out: &mut [u8]) -> Result<usize, Refusal> {
+    let merged = raw::index_merge(a, b, out);
+    Refusal::or(merged.refusal, merged.used)
+}
+
 /// Looks up an identifier, without its NUL, in an index of which the first `used` bytes are in use: the part that holds all
 /// of its entries and no others, empty if there are none. Refused with 26.
 pub fn index_find<'a>(

@@ -91,7 +91,8 @@ pub use fields::{
     field, fields, same_identifier, walk_start, walk_step, Field, Fields, Step, FIRST_FIELD,
 };
 pub use index::{
-    index_add, index_entries, index_find, index_step, IndexEntries, IndexEntry, ENTRY_MAX,
+    index_add, index_entries, index_find, index_merge, index_step, IndexEntries, IndexEntry,
+    ENTRY_MAX,
 };
 pub use leads::{lead, leads, read_lead, samples, Entry, Lead, LEADS_MAX, SAMPLES_MAX};
 pub use record::{breaks, crc, open, Pointer, RECORD_MAX};

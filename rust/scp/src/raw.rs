@@ -115,7 +115,7 @@ pub struct ScpWritten {
     pub bytes: u32,
 }
 
-/// An index that a record was added to.
+/// An index that a record was added to, or that two were merged into.
 #[repr(C)]
 #[derive(Clone, Copy, Debug, Default, PartialEq, Eq)]
 pub struct ScpIndexed {
@@ -228,6 +228,15 @@ extern "C" {
     ) -> ScpPart;
     /// Shows the entry at a place of an index.
     pub fn scp_index_step(index: *const u8, n: usize, at: usize) -> ScpIndexEntry;
+    /// Merges two indexes.
+    pub fn scp_index_merge(
+        a: *const u8,
+        an: usize,
+        b: *const u8,
+        bn: usize,
+        out: *mut u8,
+        out_n: usize,
+    ) -> ScpIndexed;
 }
 
 // ---- the calls that room is lent to, on slices
@@ -314,6 +323,22 @@ pub fn index_add(index: &mut [u8], used: usize, record: &[u8]) -> ScpIndexed {
             used,
             record.as_ptr(),
             record.len(),
+        )
+    }
+}
+
+/// [`scp_index_merge`] on slices.
+pub fn index_merge(a: &[u8], b: &[u8], out: &mut [u8]) -> ScpIndexed {
+    // SAFETY: all three are slices lent for the call, which only reads the first two; no two of them share memory that it
+    // writes to.
+    unsafe {
+        scp_index_merge(
+            a.as_ptr(),
+            a.len(),
+            b.as_ptr(),
+            b.len(),
+            out.as_mut_ptr(),
+            out.len(),
         )
     }
 }

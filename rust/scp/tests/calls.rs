@@ -700,6 +700,110 @@ fn records_whose_leads_are_refused_have_an_entry() {
     }
 }
 
+/// The index of two, whose length is answered; the bytes behind it are not changed.
+fn merged(a: &[u8], b: &[u8]) -> Vec<u8> {
+    let both = a.len() + b.len();
+    let mut out = vec![77; both + 3];
+    assert_eq!(scp::index_merge(a, b, &mut out), Ok(both));
+    assert_eq!(out.split_off(both), [77; 3]);
+    let mut just_enough = vec![77; both];
+    assert_eq!(scp::index_merge(a, b, &mut just_enough), Ok(both));
+    assert_eq!(just_enough, out);
+    out
+}
+
+#[test]
+fn two_indexes_are_merged() {
+    let a = index_of(&[
+        record_of(b"00", [12, 31], 1),
+        record_of(b"007", [3, 2], 2),
+        record_of(b"8", [1, 1], 1),
+    ]);
+    let b = index_of(&[
+        record_of(b"007", [2, 31], 1),
+        record_of(b"007", [3, 2], 1), // the same date as in the other index
+        record_of(b"0071", [3, 1], 1),
+        record_of(b"70", [1, 1], 1),
+    ]);
+    let order: [Shown; 7] = [
+        (b"00", [12, 31], 1),
+        (b"007", [2, 31], 1),
+        (b"007", [3, 2], 2),
+        (b"007", [3, 2], 1),
+        (b"0071", [3, 1], 1),
+        (b"70", [1, 1], 1),
+        (b"8", [1, 1], 1),
+    ];
+    assert_eq!(listed(&merged(&a, &b)), order);
+    let mut other_order = order;
+    other_order.swap(2, 3);
+    assert_eq!(listed(&merged(&b, &a)), other_order);
+    for index in [&a, &b] {
+        assert_eq!(merged(index, &[]), *index);
+        assert_eq!(merged(&[], index), *index);
+    }
+    assert_eq!(merged(&[], &[]), []);
+    // both may be the same bytes: they are only read
+    assert_eq!(merged(&ENTRY, &ENTRY), [ENTRY, ENTRY].concat());
+}
+
+/// Runs of records, each with an index of its own, give the index to which all are added one by one.
+#[test]
+fn runs_are_merged_to_what_is_added_one_by_one() {
+    let people = [
+        (&b"7"[..], 1),
+        (b"007", 2),
+        (b"7", 1),
+        (b"0", 3),
+        (b"007", 2),
+    ];
+    let records: Vec<_> = (0..10)
+        .map(|turn| {
+            let (identifier, day) = people[turn % people.len()];
+            record_of(identifier, [3, day], 1 + turn % 2)
+        })
+        .collect();
+    let all = index_of(&records);
+    for first in 0..=records.len() {
+        for second in first..=records.len() {
+            let (one, two) = (&records[..first], &records[first..second]);
+            let runs = [one, two, &records[second..]].map(index_of);
+            let [one, two, three] = &runs;
+            assert_eq!(merged(&merged(one, two), three), all, "{first}, {second}");
+            assert_eq!(merged(one, &merged(two, three)), all, "{first}, {second}");
+        }
+    }
+}
+
+#[test]
+fn merging_is_refused_in_its_order() {
+    let refused = |a: &[u8], b: &[u8], room| {
+        let mut out = vec![77; room];
+        let refused = scp::index_merge(a, b, &mut out).unwrap_err();
+        assert_eq!(out, vec![77; room], "a refusal changes nothing");
+        refused
+    };
+    let seven = index_of(&[sample("7.scp")]);
+    let unsorted = [&seven[..], &ENTRY].concat();
+    for (a, b) in [
+        (&unsorted[..], &seven[..]),
+        (&seven, &unsorted),
+        (&unsorted, &unsorted),
+        (&ENTRY[..7], &[]),
+        (&[], &ENTRY[1..]),
+    ] {
+        for room in [0, 13, 14, 99] {
+            assert_eq!(refused(a, b, room), Refusal::INDEX);
+        }
+    }
+    for room in [0, 6, 8, 13] {
+        assert_eq!(refused(&seven, &ENTRY, room), Refusal::ROOM);
+        assert_eq!(refused(&ENTRY, &seven, room), Refusal::ROOM);
+    }
+    assert_eq!(refused(&ENTRY, &[], 7), Refusal::ROOM);
+    assert_eq!(refused(&[], &ENTRY, 7), Refusal::ROOM);
+}
+
 /// The C header has the table's numbers under their names, and no other.
 #[test]
 fn the_header_names_every_refusal() {

@@ -27,6 +27,7 @@ mod progress;
 mod reading;
 mod refused;
 mod rules;
+mod runs;
 mod status;
 mod store;
 mod table;

@@ -19,6 +19,10 @@ use crate::text::reason;
 /// Said where no file was found, as in a folder that is not mounted.
 const EMPTY: &str = "no files found; use --allow-empty if that is expected";
 
+/// The most answers that wait for one that is not ready, so that others are worked on while one file is slow to read. An answer
+/// holds no record, but a path and some words or bytes: so many of them take less memory than one long record.
+const AHEAD: usize = 512;
+
 /// The files, and how they are worked on.
 pub struct Many {
     pub paths: Vec<PathBuf>,
@@ -26,8 +30,6 @@ pub struct Many {
     pub without: Option<Identity>,
     /// How many are worked on at once; else as many as there are cores.
     pub jobs: Option<u16>,
-    /// The most answers that wait for one that is not ready.
-    pub ahead: usize,
     /// Whether those that cannot be read are shown as JSON, too.
     pub json: bool,
 }
@@ -57,12 +59,10 @@ impl Many {
         mut take: impl FnMut(&Path, A, &mut Tally, &mut Output),
         output: &mut Output,
     ) -> Tally {
-        let Many {
-            jobs, ahead, json, ..
-        } = self;
+        let Many { jobs, json, .. } = self;
         let listed = move || self.listed();
         let workers = ordered::workers(jobs);
-        let all = Ordered::start(workers, ahead, listed(), own, move |own, one| {
+        let all = Ordered::start(workers, AHEAD, listed(), own, move |own, one| {
             done(one, |file| work(own, file))
         });
         let bar = progress::bar(listed);

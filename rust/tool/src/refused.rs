@@ -5,7 +5,7 @@ use std::path::Path;
 use scp::Refusal;
 
 use crate::explain::{self, Looked};
-use crate::input::Input;
+use crate::input::{Input, Size};
 use crate::output::Output;
 use crate::paths::shown;
 use crate::verdict::{self, Word};
@@ -49,9 +49,11 @@ impl Refused {
     }
 
     /// The same with as little as says what is wrong: the first thing found, after that the file looks like no record at all.
+    /// It takes no more memory than that, however much was found.
     pub fn in_short(mut self, input: &Input) -> Refused {
         self.found
             .truncate(1 + usize::from(explain::foreign(&input.bytes).is_some()));
+        self.found.shrink_to_fit();
         self
     }
 
@@ -76,8 +78,8 @@ impl Refused {
     }
 
     /// The line that starts what is shown of it.
-    pub fn heading(&self, file: &Path, input: &Input) -> String {
-        let (name, number, size) = (shown(file), self.refusal.number(), input.size);
+    pub fn heading(&self, file: &Path, size: Size) -> String {
+        let (name, number) = (shown(file), self.refusal.number());
         match self.word {
             Word::Absent => format!(
                 "{name}: absent, number {number} ({size}): {}",
@@ -108,7 +110,7 @@ impl Refused {
 
     /// All of it, in lines.
     pub fn text(&self, file: &Path, input: &Input) -> Vec<String> {
-        let mut lines = vec![self.heading(file, input)];
+        let mut lines = vec![self.heading(file, input.size)];
         lines.extend(self.lines());
         if let Some(note) = self.note() {
             lines.extend([String::new(), note.to_string()]);

@@ -193,34 +193,42 @@ audit.idx: accepted (76 bytes; 10 entries of 5 identifiers, from 0000-01-01 to 6
     assert_eq!(audit(&folder), at_once);
 }
 
-/// Many files, more than are held at once: the same index and the same answer however many are read at once.
+/// One of many records, of ten patients and three days. Equal ones differ in their leads, which are no part of the order.
+fn one_of_many(number: usize) -> Vec<u8> {
+    let identifier = (number * 7919 % 10).to_string();
+    let date = (2024, 1, 1 + (number % 3) as u8);
+    record(identifier.as_bytes(), date, number % 33)
+}
+
+/// Many files, more than wait for one: the same index and the same answer however many are read at once.
 #[test]
 fn the_index_does_not_depend_on_the_jobs() {
     let folder = Folder::new("index-jobs");
     fs::create_dir_all(folder.path("in/b")).unwrap();
     let mut good = Vec::new();
-    for number in 0..300_usize {
-        let name = format!("in/{}{number:04}", if number < 150 { "a" } else { "b/" });
-        let identifier = format!("{}", number * 7919 % 10);
-        let of = record(
-            identifier.as_bytes(),
-            (2024, 1, 1 + (number % 3) as u8),
-            number % 33,
-        );
-        match number % 10 {
-            3 => folder.file(&name, &sample("refused-2.scp")),
-            _ => folder.file(&name, &of),
-        };
-        if number % 10 != 3 {
-            good.push(of);
+    for number in 0..600 {
+        let name = format!("in/{}{number:04}", if number < 300 { "a" } else { "b/" });
+        if number % 10 == 3 {
+            folder.file(&name, &sample("refused-2.scp"));
+            continue;
         }
+        let record = one_of_many(number);
+        folder.file(&name, &record);
+        good.push(record);
     }
+    let wanted = built(&good);
     let mut answers = Vec::new();
-    for jobs in [&["--jobs", "1"][..], &["--jobs", "2"], &["--jobs=7"], &[]] {
+    for jobs in [
+        &["--jobs", "1"][..],
+        &["--jobs=2"],
+        &["--jobs=3"],
+        &["--jobs=7"],
+        &[],
+    ] {
         for form in [&[][..], &["--json"]] {
             let ran = add(&folder, &[&["in"], jobs, form].concat());
             assert_eq!((ran.status, ran.err.as_str()), (1, ""), "{jobs:?}");
-            assert_eq!(audit(&folder), built(&good), "{jobs:?}");
+            assert_eq!(audit(&folder), wanted, "{jobs:?}");
             answers.push(ran.out);
             fs::remove_file(folder.path("audit.idx")).unwrap();
         }
@@ -228,10 +236,35 @@ fn the_index_does_not_depend_on_the_jobs() {
     let last = answers[0].lines().nth_back(2).unwrap();
     assert_eq!(
         last,
-        "audit.idx: 270 added, 30 refused, 0 not read; 270 entries now"
+        "audit.idx: 540 added, 60 refused, 0 not read; 540 entries now"
     );
     for pair in answers.chunks(2).skip(1) {
         assert!(pair == &answers[..2]);
+    }
+}
+
+/// One at a time, or some by some, each time by a run of its own: the index is that of all at once.
+#[test]
+fn the_index_does_not_depend_on_how_records_are_parted() {
+    let folder = Folder::new("index-parted");
+    let records: Vec<_> = (0..64).map(one_of_many).collect();
+    let file = |(number, record): (usize, &Vec<u8>)| {
+        let name = format!("{number}.scp");
+        folder.file(&name, record);
+        name
+    };
+    let names: Vec<String> = records.iter().enumerate().map(file).collect();
+    for (at_once, jobs) in [(1, "--jobs=1"), (7, "--jobs=3"), (40, "--jobs=7")] {
+        let mut added = 0;
+        for some in names.chunks(at_once) {
+            let some = some.iter().map(String::as_str);
+            let words: Vec<&str> = [jobs].into_iter().chain(some).collect();
+            assert_eq!(add(&folder, &words).status, 0);
+            added += words.len() - 1;
+            assert_eq!(audit(&folder), built(&records[..added]), "{jobs}, {added}");
+        }
+        assert_eq!(added, records.len());
+        fs::remove_file(folder.path("audit.idx")).unwrap();
     }
 }
 
@@ -900,17 +933,34 @@ fn a_second_writer_is_told_at_once() {
     assert_eq!(add(&folder, &["b.scp"]).status, 0);
 }
 
-/// A run that is killed leaves the index as it was, and no lock.
+/// A run that is killed when it has taken in hundreds of records leaves the index as it was, an empty one where there was none,
+/// and nothing that hinders the next run.
 #[test]
 fn a_killed_run_leaves_the_index_and_no_lock() {
-    let index = built(&[sample("7.scp")]);
-    let (folder, waiting) = at_work("index-killed", Some(&index));
-    waiting.send("-KILL");
-    waiting.end();
-    assert_eq!(audit(&folder), index);
-    assert_eq!(add(&folder, &["b.scp"]).status, 0);
-    assert_eq!(audit(&folder), built(&["7.scp", "007.scp"].map(sample)));
-    assert_eq!(folder.names(), ["a.scp", "audit.idx", "b.scp", "pipe"]);
+    let old = [sample("7.scp")];
+    for (name, old) in [("index-killed", &old[..]), ("index-killed-new", &[])] {
+        let folder = Folder::new(name);
+        if !old.is_empty() {
+            folder.file("audit.idx", &built(old));
+        }
+        fs::create_dir(folder.path("in")).unwrap();
+        let records: Vec<_> = (0..300).map(one_of_many).collect();
+        for (number, record) in records.iter().enumerate() {
+            folder.file(&format!("in/{number:04}"), record);
+        }
+        folder.file("in/last", &sample("refused-2.scp"));
+        let waiting = Waiting::start(&folder, &["index", "add", "audit.idx", "in", "pipe"]);
+        assert!(waiting.line().starts_with("in/last: refused, number 2 ("));
+        waiting.send("-KILL");
+        let (_, status, _) = waiting.end();
+        assert_eq!(status, None);
+        assert_eq!(audit(&folder), built(old));
+        assert_eq!(folder.names(), ["audit.idx", "in", "pipe"]);
+        let ran = add(&folder, &["in"]);
+        assert_eq!((ran.status, ran.err.as_str()), (1, ""));
+        assert_eq!(audit(&folder), built(old.iter().chain(&records)));
+        assert_eq!(folder.names(), ["audit.idx", "in", "pipe"]);
+    }
 }
 
 /// An interruption leaves the index as it was, also one that was not there.

@@ -1,29 +1,23 @@
 -- At every turn the entries passed are not greater; the first that is, or the end, is the place.
 use Prim.Native.Nat.{_-_}
 use mathlib.Core.Path.{_≡_, sym, ap, _∙_}
-use mathlib.Core.Bool.{Bool, not}
-use native.Mathlib.Nat.{zero-add}
+use mathlib.Core.Bool.{not}
 use native.Mathlib.Omega.{arith}
 use lib.ListN.{length}
-use Rattle.index.specs.Entry.{Entry}
 use Rattle.index.specs.Order.{before}
+use Rattle.index.specs.Index.{upTo}
 use Rattle.index.specs.InnerSteps.{seen}
 use Rattle.index.proofs.Walk.{Shown, shown-at, Going, going-from, going-on, going-stop, going-end, whole-entry, none-past, going-whole}
-use Rattle.filing.specs.Filing.{placeFor}
 use Rattle.filing.specs.InnerFiling.{filed}
 use borrow.Author.Needs.{needs}
 use Rattle.filing.proofs.place_for.Statement.{statement}
 use Rattle.filing.proofs.place_for.Tie as tie
 
--- an entry does not come before another
-abbrev upTo : Entry → Entry → Bool
-upTo e x = not (before e x)
-
 abbrev Inv-loop : tie.InvT-loop
-Inv-loop s id date at₀ at = Going (upTo (filed id date 0)) s 0 at
+Inv-loop s from id date at₀ at = Going (upTo (filed id date 0)) s from at
 
 abbrev μ-loop : tie.MeasureT-loop
-μ-loop s id date at₀ at = length s - at
+μ-loop s from id date at₀ at = length s - at
 
 loop-holds : tie.Need-loop-holds Inv-loop μ-loop
 loop-holds c = going-from _ _ _ (omega arith)
@@ -51,11 +45,9 @@ unfolding before
 asked c = rw (← c .before .before .part-of .ensures, ← c .before .date-of .ensures) (c .is-before .ensures)
 
 returns : tie.Need-returns Inv-loop μ-loop
-unfolding placeFor
 returns c =
     let greater = ap not (sym (asked (c .before)) ∙ c .if1 .taken) in
-    let p = going-stop _ _ _ _ _ (c .before .before .before .before .before .before .loop .inv) (there (c .before .before .before .before)) greater in
-    (p .place ∙ zero-add _, p .within)
+    going-stop _ _ _ _ _ (c .before .before .before .before .before .before .loop .inv) (there (c .before .before .before .before)) greater
 
 loop-less : tie.Need-loop-less Inv-loop μ-loop
 loop-less c = let w = there (c .before .before .before .before) in omega (arith, w .size, w .within)
@@ -66,11 +58,9 @@ loop-again c =
     going-on _ _ _ _ _ (c .before .before .before .before .before .before .loop .inv) (there (c .before .before .before .before)) not-greater
 
 returns-2 : tie.Need-returns-2 Inv-loop μ-loop
-unfolding placeFor
 returns-2 c =
     let l = c .before .loop in
-    let p = going-end _ _ _ _ (l .inv) (none-past (c .before .before .before .before .args .s .now) (l .at) (omega arith)) in
-    (p .place ∙ zero-add _, p .within)
+    going-end _ _ _ _ (l .inv) (none-past (c .before .before .before .before .args .s .now) (l .at) (omega arith))
 
 pub place-for-spec : {M : Type 1} → statement M
 place-for-spec =

@@ -2,6 +2,7 @@
 use Prim.Native.Nat.{ℕ, _+_, _-_, _≤_, _<_}
 use mathlib.Core.Path.{_≡_, ap, _∙_}
 use mathlib.Core.List.{List}
+use native.Mathlib.Nat.{zero-add}
 use native.Mathlib.Omega.{arith}
 use lib.ListN.{length, take, drop, length-take, length-drop}
 use Rattle.wire.proofs.Places.{part-front}
@@ -53,14 +54,14 @@ place-fits : (c : tie.After-place-for) → c .place-for .result ≤ c .before .b
 place-fits c =
     let a = c .before .before .before .before .before .before .before .args in
     let long = ap length (c .before .part-of .ensures) ∙ length-take (a .used - 0) (a .lent .now) in
-    omega (arith, c .place-for .ensures .1, long)
+    omega (arith, c .place-for .ensures .within, long)
 
 -- and that of the record's entry
 place-is : (c : tie.After-place-for) → let a = c .before .before .before .before .before .before .before .args in
     c .place-for .result ≡ placeFor (entryOf (a .rec .now)) (entriesIn (take (a .used) (a .lent .now)))
 unfolding placeFor before entryOf
 place-is c =
-    c .place-for .ensures .0
+    c .place-for .ensures .place ∙ zero-add _
     ∙ rw (used (c .before), c .before .before .before .before .identifier-of .ensures, c .before .before .before .date-of .ensures)
 
 add-end : tie.Need-add-end

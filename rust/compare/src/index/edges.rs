@@ -1,5 +1,5 @@
-//! Additions at the edges of the index's rules, laid out by hand: on each side of every bound, with all else right. The right
-//! answers are written here from the rules.
+//! Additions and merges at the edges of the index's rules, laid out by hand: on each side of every bound, with all else right.
+//! The right answers are written here from the rules.
 
 use judge::row;
 
@@ -462,4 +462,203 @@ fn broken_records() -> Vec<(u8, Vec<u8>)> {
     record.push(0);
     all.push((row::LENGTH, record));
     all
+}
+
+// ---- merging
+
+/// Two indexes that are to be merged, and the answer: the index of both, or the refusal.
+pub struct Merge {
+    /// A description in a few words.
+    pub name: String,
+    /// The first index.
+    pub a: Vec<u8>,
+    /// The second one.
+    pub b: Vec<u8>,
+    /// How many bytes the output has.
+    pub room: usize,
+    /// The answer.
+    pub merged: Result<Vec<u8>, u8>,
+}
+
+/// Merges, as they are collected.
+struct Merges(Vec<Merge>);
+
+/// All of them.
+pub fn merges() -> Vec<Merge> {
+    let mut merges = Merges(Vec::new());
+    empty(&mut merges);
+    pairs(&mut merges);
+    equal(&mut merges);
+    many(&mut merges);
+    output(&mut merges);
+    no_index(&mut merges);
+    merges.0
+}
+
+impl Merges {
+    /// Merges these entries, with just enough room and with more. All entries are then these.
+    fn accepted(&mut self, name: &str, a: &[Vec<u8>], b: &[Vec<u8>], then: &[Vec<u8>]) {
+        let (a, b, then) = (a.concat(), b.concat(), then.concat());
+        for room in [then.len(), then.len() + 1, then.len() + BEHIND.len()] {
+            self.lent(name, [&a, &b], room, Ok(then.clone()));
+        }
+    }
+
+    /// Merges these bytes with this much room.
+    fn lent(&mut self, name: &str, [a, b]: [&[u8]; 2], room: usize, merged: Result<Vec<u8>, u8>) {
+        self.0.push(Merge {
+            name: format!("{name}: {} and {} bytes into {room}", a.len(), b.len()),
+            a: a.to_vec(),
+            b: b.to_vec(),
+            room,
+            merged,
+        });
+    }
+}
+
+fn empty(merges: &mut Merges) {
+    let there = [of(b"007", DAY, 1), of(b"7", DAY, 1)];
+    merges.accepted("two empty ones", &[], &[], &[]);
+    merges.accepted("the first is empty", &[], &there, &there);
+    merges.accepted("the second is empty", &there, &[], &there);
+}
+
+/// Two entries, the lesser first: whichever of the two indexes has it, it comes first.
+fn pairs(merges: &mut Merges) {
+    let two = |one: &[u8], other: &[u8]| [of(one, DAY, 1), of(other, DAY, 1)];
+    let dated = |one, other| [of(b"7", one, 1), of(b"7", other, 1)];
+    let ends_with = |byte| [vec![b'7'; 62], vec![byte]].concat();
+    for (name, [one, other]) in [
+        ("007 is not 7", two(b"007", b"7")),
+        ("the bytes before the lengths", two(b"70", b"8")),
+        ("bytes over 7F hex", two(b"\x7F", b"\x80")),
+        ("the least byte and the greatest", two(b"\x01", b"\xFF")),
+        ("one that begins with the other", two(b"7", b"70")),
+        ("a longer one by its least byte", two(b"7", b"7\x01")),
+        ("one of 62 bytes, one of 63", two(&[b'7'; 62], &[b'7'; 63])),
+        (
+            "the last byte of 63",
+            two(&ends_with(b'7'), &ends_with(b'8')),
+        ),
+        ("years", dated([255, 12, 31], [256, 1, 1])),
+        (
+            "the first year and the last",
+            dated([0, 1, 1], [65_535, 1, 1]),
+        ),
+        ("months", dated([2024, 2, 31], [2024, 3, 1])),
+        ("months of two digits", dated([2024, 9, 1], [2024, 10, 1])),
+        ("days", dated([2024, 3, 15], [2024, 3, 16])),
+        (
+            "the identifier before the date",
+            [of(b"7", [65_535, 12, 31], 1), of(b"70", [0, 1, 1], 1)],
+        ),
+        (
+            "the date before the leads",
+            [of(b"7", DAY, 32), of(b"7", [2024, 3, 15], 0)],
+        ),
+    ] {
+        let then = [one.clone(), other.clone()];
+        let (one, other) = ([one], [other]);
+        merges.accepted(name, &one, &other, &then);
+        merges.accepted(name, &other, &one, &then);
+        // all of one index, then all of the other
+        let both = [&one[..], &one, &other, &other].concat();
+        merges.accepted(name, &both[..2], &both[2..], &both);
+        merges.accepted(name, &both[2..], &both[..2], &both);
+        merges.accepted(name, &then, &then, &both);
+    }
+}
+
+/// Entries of the same identifier and date: those of the first index come first, whatever their leads.
+fn equal(merges: &mut Merges) {
+    let [one, two, three, four] = [0, 1, 2, 32].map(|leads| of(b"7", DAY, leads));
+    for (a, b) in [(&one, &four), (&four, &one), (&two, &two), (&three, &two)] {
+        let (a, b) = ([a.clone()], [b.clone()]);
+        merges.accepted("two equal ones", &a, &b, &[&a[..], &b].concat());
+    }
+    let (a, b) = ([four, one, two.clone()], [three.clone(), two, three]);
+    merges.accepted("several equal ones", &a, &b, &[&a[..], &b].concat());
+    merges.accepted("several equal ones", &b, &a, &[&b[..], &a].concat());
+    // one before them and one behind them, in either index
+    let (least, greatest) = ([of(b"6", DAY, 3)], [of(b"70", DAY, 3)]);
+    let then = [&least[..], &a, &b, &greatest].concat();
+    let first = [&least[..], &a, &greatest].concat();
+    merges.accepted("equal ones inside the first", &first, &b, &then);
+    let second = [&least[..], &b, &greatest].concat();
+    merges.accepted("equal ones inside the second", &a, &second, &then);
+}
+
+/// Eight entries, two of them equal, shared out between two indexes in every way.
+fn many(merges: &mut Merges) {
+    let all = [
+        of(b"0", [2025, 1, 1], 1),
+        of(b"007", DAY, 2),
+        of(b"007", DAY, 1),
+        of(b"007", [2024, 3, 15], 0),
+        of(b"7", [2023, 12, 31], 32),
+        of(b"7", DAY, 0),
+        of(b"70", [0, 1, 1], 3),
+        of(b"\xFF", DAY, 4),
+    ];
+    for shares in 0..1 << all.len() {
+        let is_in_a = |place: usize| shares >> place & 1 == 1;
+        let [a, b] = [true, false].map(|wanted| {
+            let places = (0..all.len()).filter(|&place| is_in_a(place) == wanted);
+            places.map(|place| all[place].clone()).collect::<Vec<_>>()
+        });
+        let mut then = all.clone();
+        // of the two equal ones, that of the first index comes first
+        if is_in_a(2) && !is_in_a(1) {
+            then.swap(1, 2);
+        }
+        merges.accepted("shared out", &a, &b, &then);
+    }
+}
+
+// ---- rows 11 and 26 of merging
+
+fn output(merges: &mut Merges) {
+    let (a, b) = (of(b"7", DAY, 1), [of(b"007", DAY, 1), of(b"8", DAY, 1)]);
+    let b = b.concat();
+    let enough = a.len() + b.len();
+    for room in [0, 1, a.len(), b.len(), enough - 1] {
+        merges.lent("too little room", [&a, &b], room, Err(row::ROOM));
+    }
+    for room in [0, a.len() - 1] {
+        merges.lent("too little room", [&a, &[]], room, Err(row::ROOM));
+        merges.lent("too little room", [&[], &a], room, Err(row::ROOM));
+    }
+}
+
+/// Bytes that are no index, as either of two or as both: 26 comes before 11.
+fn no_index(merges: &mut Merges) {
+    let sound = [of(b"007", DAY, 1), of(b"7", DAY, 1)].concat();
+    let unordered = [of(b"7", DAY, 1), of(b"007", DAY, 1)].concat();
+    let dates = [of(b"7", [2024, 3, 15], 1), of(b"7", DAY, 1)].concat();
+    let with_nul = [of(b"7", DAY, 1), of(b"8\0", DAY, 1)].concat();
+    let no_month = entry([1, 2024, 13, 14, 12, 0], b"7");
+    let with_bit = entry([1, 2024, 3, 14, 12, 1], b"7");
+    for (name, broken) in [
+        ("one byte", &[0][..]),
+        ("a byte is missing", &sound[..sound.len() - 1]),
+        ("a byte too many", &[&sound[..], &[0]].concat()),
+        ("the first byte is missing", &sound[1..]),
+        ("identifiers not in order", &unordered),
+        ("dates not in order", &dates),
+        ("a NUL", &with_nul),
+        ("month 13", &no_month),
+        ("the bit that is 0", &with_bit),
+    ] {
+        for other in [&sound, &[][..]] {
+            let enough = broken.len() + other.len();
+            for room in [0, enough - 1, enough, enough + 1] {
+                merges.lent(name, [broken, other], room, Err(row::INDEX));
+                merges.lent(name, [other, broken], room, Err(row::INDEX));
+            }
+        }
+        for room in [0, 2 * broken.len()] {
+            merges.lent(name, [broken, broken], room, Err(row::INDEX));
+            merges.lent(name, [broken, &unordered], room, Err(row::INDEX));
+        }
+    }
 }

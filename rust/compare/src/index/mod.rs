@@ -1,16 +1,17 @@
 //! The index, held against the judge's: records added one by one, with room of every kind of length; identifiers looked up;
-//! entries at any place; and bytes that are no index (02, Q-13).
+//! entries at any place; bytes that are no index (02, Q-13); and indexes merged.
 
 pub mod edges;
+pub mod merging;
 
-use judge::make::{self, LentIndex, Rng};
+use judge::make::{self, Rng};
 use judge::{IndexEntry, IndexStep};
 use scp::{raw, Refusal};
 
 use crate::answers::{hold, number, same, Difference};
 use crate::calls::part;
 use crate::lent::Lent;
-use crate::tally::{Call, Tally};
+use crate::tally::{Call, Put, Tally};
 
 /// The bytes of an entry before its identifier.
 pub const HEAD: usize = 5;
@@ -280,8 +281,8 @@ fn wrapper(index: &[u8], used: usize, record: &[u8]) -> Result<(), Difference> {
 }
 
 /// Adds records one by one as they arrive, each with just enough room, with one byte too little and with more; looks at what
-/// has come of it; and asks that it is the index that is built afresh from all of them. The safe wrapper adds them to one
-/// buffer, of which the bytes that are never in use stay as they were.
+/// has come of it; and asks that it is the index that is built afresh from all of them, and the one that is made of runs of
+/// them. The safe wrapper adds them to one buffer, of which the bytes that are never in use stay as they were.
 pub fn build(records: &[Vec<u8>], rng: &mut Rng, tally: &mut Tally) -> Result<(), Difference> {
     let buffer = rng.bytes(records.len() * scp::ENTRY_MAX + BEHIND);
     let (mut kept, mut kept_used) = (Lent::new(&buffer, rng), 0);
@@ -310,8 +311,9 @@ pub fn build(records: &[Vec<u8>], rng: &mut Rng, tally: &mut Tally) -> Result<()
     for identifier in steps(&index).map(|step| step.entry.identifier) {
         find(&index, used, identifier, tally)?;
     }
-    let LentIndex { bytes, used } = make::broken_index(rng);
-    look(&bytes, used, rng, tally)
+    let broken = make::broken_index(rng);
+    look(&broken.bytes, broken.used, rng, tally)?;
+    merging::in_runs(records, &index, rng, tally)
 }
 
 /// Adds a record to an index, all of which is in use, with room of every kind of length: the index with the record in it, or as
@@ -330,13 +332,13 @@ fn add_with_every_room(
     let room = enough + 1 + rng.small(BEHIND);
     let added = add(&resized(&index, room, rng), used, record, rng, tally)?;
     if let Ok(entry) = judge::index_entry(record) {
-        count(&index, entry, tally);
+        put(&index, entry, &mut tally.built.put);
     }
     Ok(added.unwrap_or(index))
 }
 
-/// Counts an entry that is added to an index, and where it goes.
-fn count(index: &[u8], new: IndexEntry, tally: &mut Tally) {
+/// Counts an entry that is put into an index, and where it goes.
+fn put(index: &[u8], new: IndexEntry, counts: &mut Put) {
     let key = |entry: &IndexEntry| (entry.year, entry.month, entry.day);
     let there = || steps(index).map(|step| step.entry);
     let is_before =
@@ -348,9 +350,8 @@ fn count(index: &[u8], new: IndexEntry, tally: &mut Tally) {
         let (one, other) = (new.identifier, other.identifier);
         one != other && (one.starts_with(other) || other.starts_with(one))
     };
-    let built = &mut tally.built;
-    built.entries += 1;
-    built.before += u64::from(there().any(|other| is_before(&other)));
-    built.behind_equal += u64::from(there().any(|other| is_equal(&other)));
-    built.begun += u64::from(there().any(|other| begins(&other)));
+    counts.entries += 1;
+    counts.before += u64::from(there().any(|other| is_before(&other)));
+    counts.behind_equal += u64::from(there().any(|other| is_equal(&other)));
+    counts.begun += u64::from(there().any(|other| begins(&other)));
 }

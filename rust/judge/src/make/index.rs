@@ -1,4 +1,4 @@
-//! Records that arrive at an index, and indexes, sound and damaged (02, Q-13).
+//! Records that arrive at an index, and indexes, sound, damaged and in pairs (02, Q-13).
 //!
 //! Few people, dates and numbers of leads are drawn for an index, so that its entries are close to
 //! each other: identifiers that begin one another, dates that differ in one number, and equal ones
@@ -16,6 +16,8 @@ use crate::opening::field;
 const LONGEST: usize = 63;
 /// The most records that arrive at one index.
 const MOST: usize = 40;
+/// An index that is much longer than another is made of so many times the records.
+const LONGER: usize = 12;
 
 /// The bytes of tag 25.
 type Date = [u8; 4];
@@ -213,8 +215,53 @@ pub fn to_index(rng: &mut Rng) -> Vec<Vec<u8>> {
 
 /// An index, all of it in use.
 pub fn index(rng: &mut Rng) -> Vec<u8> {
-    let arrivals = arrivals(rng);
+    index_of(&arrivals(rng))
+}
+
+/// The index of these arrivals.
+fn index_of(arrivals: &[Arrival]) -> Vec<u8> {
     laid_out(arrivals.iter().map(Arrival::entry).collect())
+}
+
+/// Two indexes, all of both in use. In most pairs both have entries of the same people and dates.
+pub fn two_indexes(rng: &mut Rng) -> [Vec<u8>; 2] {
+    let mut two = match rng.below(8) {
+        0 => [index(rng), index(rng)],
+        1 => [index(rng), vec![]],
+        2 => cut(rng),
+        3 => {
+            let one = arrivals(rng);
+            let other = |arrival: &Arrival| Arrival {
+                leads: Some(rng.within(1..=32) as u8),
+                ..arrival.clone()
+            };
+            let other: Vec<_> = one.iter().map(other).collect();
+            [index_of(&one), index_of(&other)]
+        }
+        4 => {
+            let all = (0..LONGER).flat_map(|_| arrivals(rng)).collect();
+            shared_out(rng, all, 40)
+        }
+        _ => {
+            let all = arrivals(rng);
+            shared_out(rng, all, 2)
+        }
+    };
+    rng.shuffle(&mut two);
+    two
+}
+
+/// The entries of an index up to one of them, and those behind.
+fn cut(rng: &mut Rng) -> [Vec<u8>; 2] {
+    let pieces = pieces(&index(rng));
+    let (front, behind) = pieces.split_at(rng.below(pieces.len() + 1));
+    [front.concat(), behind.concat()]
+}
+
+/// The indexes of two parts of these: one in so many goes to the second.
+fn shared_out(rng: &mut Rng, all: Vec<Arrival>, times: usize) -> [Vec<u8>; 2] {
+    let (second, first): (Vec<_>, Vec<_>) = all.into_iter().partition(|_| rng.one_in(times));
+    [index_of(&first), index_of(&second)]
 }
 
 /// Bytes that are mostly no index, or fewer or more of them in use than there are entries.

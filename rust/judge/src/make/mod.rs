@@ -18,7 +18,7 @@ mod tables;
 mod writing;
 
 pub use damage::{aimed, blind, damaged, noise, several};
-pub use index::{arrivals, broken_index, dated, index, to_index, Arrival, LentIndex};
+pub use index::{arrivals, broken_index, dated, index, to_index, two_indexes, Arrival, LentIndex};
 pub use plan::{mend, mend_size};
 pub use rhythm::MadeLead;
 pub use rng::Rng;

@@ -13,9 +13,6 @@ use crate::status::Status;
 use crate::tally::Tally;
 use crate::verdict::{Room, Verdict};
 
-/// The most answers that wait for one that is not ready.
-const AHEAD: usize = 512;
-
 /// The options.
 #[derive(Clone, Copy)]
 pub struct Asked {
@@ -41,7 +38,6 @@ pub fn run(paths: Vec<PathBuf>, asked: Asked, jobs: Option<u16>, output: &mut Ou
         paths,
         without: None,
         jobs,
-        ahead: AHEAD,
         json: asked.json,
     };
     let take = |file: &Path, judged: Judged, tally: &mut Tally, output: &mut Output| {

@@ -58,7 +58,7 @@ fn open(file: &Path, input: &Input, json: bool, tally: &mut Tally, output: &mut 
     match opened {
         Ok(pointers) => show(file, input.size, &pointers, output),
         Err(refused) => {
-            output.line(refused.heading(file, input));
+            output.line(refused.heading(file, input.size));
             output.lines(refused.lines());
         }
     }

@@ -3,23 +3,19 @@
 use std::io;
 use std::path::{Path, PathBuf};
 
-use scp::{Refusal, ENTRY_MAX};
-
 use super::{complain, judged};
 use crate::filed::{how_many, Filed};
 use crate::held::Held;
-use crate::input::{self, Input};
+use crate::input::{self, Input, Size};
 use crate::json;
 use crate::many::{self, Many};
 use crate::output::Output;
 use crate::paths::{is_standard, shown};
 use crate::refused::{self, Refused};
+use crate::runs::{Run, Runs};
 use crate::status::Status;
 use crate::tally::Tally;
 use crate::text::parted;
-
-/// The most records that wait for one that is not read yet. All of them are in memory, and a record has up to 1 MiB.
-const AHEAD: usize = 64;
 
 /// Said of standard input as an index to add to.
 const NO_FILE: &str = "INDEX must be a file: it is read, and written anew";
@@ -33,24 +29,13 @@ pub struct Asked {
     pub allow_empty: bool,
 }
 
-/// An index that records are added to.
-struct Growing {
-    /// Room for the index, of which the front is in use.
-    room: Vec<u8>,
-    used: usize,
-}
-
-impl Growing {
-    /// Adds a record, if the library does not refuse it.
-    fn add(&mut self, record: &[u8]) -> Result<(), Refusal> {
-        self.room.resize(self.used + ENTRY_MAX, 0);
-        self.used = scp::index_add(&mut self.room, self.used, record)?;
-        Ok(())
-    }
-
-    fn bytes(&self) -> &[u8] {
-        &self.room[..self.used]
-    }
+/// A worker's answer for a record. This waits for the answers before it, and not the record, whose bytes are gone by then: so
+/// there are no more records in memory than workers.
+struct Answer {
+    /// How long the record is.
+    size: Size,
+    /// Its entry, of at most 68 bytes, or why it is refused.
+    run: Result<Run, Refused>,
 }
 
 /// Adds the records of these paths to an index, which is then put in its place. Nobody else writes to it meanwhile.
@@ -81,30 +66,36 @@ pub fn run(
         paths,
         without: Some(held.identity()),
         jobs,
-        ahead: AHEAD,
         json: asked.json,
     };
-    let (growing, tally) = grown(&bytes, many, asked, output);
-    let kept = keep(held, &growing, &tally, asked);
+    let (grown, tally) = grown(&bytes, many, asked, output);
+    let kept = keep(held, &grown, &tally, asked);
     let now = match kept {
-        Ok(true) => growing.bytes(),
-        _ => &bytes[..],
+        Ok(true) => grown,
+        _ => bytes,
     };
-    conclude(index, now, &kept, &tally, asked, output)
+    conclude(index, &now, &kept, &tally, asked, output)
 }
 
-/// An index with these records added to it.
-fn grown(index: &[u8], many: Many, asked: Asked, output: &mut Output) -> (Growing, Tally) {
-    let mut growing = Growing {
-        room: index.to_vec(),
-        used: index.len(),
-    };
-    let read = |_: &mut (), file: &Path| input::read(file);
-    let take = |file: &Path, input: Input, tally: &mut Tally, output: &mut Output| {
-        take(&mut growing, file, &input, asked, tally, output);
+/// An index with these records added to it. The answers come in the order of the files; until the last one is there, all new
+/// entries are in memory, in runs.
+fn grown(index: &[u8], many: Many, asked: Asked, output: &mut Output) -> (Vec<u8>, Tally) {
+    let mut runs = Runs::default();
+    let take = |file: &Path, answer: Answer, tally: &mut Tally, output: &mut Output| {
+        take(&mut runs, file, answer, asked, tally, output);
     };
     let tally = many.each(|| (), read, take, output);
-    (growing, tally)
+    (runs.added_to(index), tally)
+}
+
+/// Reads a record and judges it. That is done by the workers, side by side.
+fn read(_: &mut (), file: &Path) -> io::Result<Answer> {
+    let input = input::read(file)?;
+    let refused = |refusal| Refused::of_adding(&input, refusal).in_short(&input);
+    Ok(Answer {
+        size: input.size,
+        run: Run::of(&input.bytes).map_err(refused),
+    })
 }
 
 /// Says that the index is refused, and that nothing is added to it.
@@ -131,37 +122,39 @@ fn refuse(
 
 /// Adds one record, or shows why it is refused.
 fn take(
-    growing: &mut Growing,
+    runs: &mut Runs,
     file: &Path,
-    input: &Input,
+    answer: Answer,
     asked: Asked,
     tally: &mut Tally,
     output: &mut Output,
 ) {
-    let Err(refusal) = growing.add(&input.bytes) else {
-        tally.accepted += 1;
-        return;
+    let refused = match answer.run {
+        Ok(run) => {
+            tally.accepted += 1;
+            return runs.push(run);
+        }
+        Err(refused) => refused,
     };
-    tally.refuse(refusal);
-    let refused = Refused::of_adding(input, refusal).in_short(input);
+    tally.refuse(refused.refusal);
     if asked.json {
-        let about = json::About::<json::Extended>::judged(file, input.size, Some(&refused));
+        let about = json::About::<json::Extended>::judged(file, answer.size, Some(&refused));
         return output.line(json::line(&about));
     }
-    let heading = refused.heading(file, input);
+    let heading = refused.heading(file, answer.size);
     output.line(refused.in_line(&heading));
 }
 
 /// Puts the index in its place, and says whether it did: not after an interruption. Where no file was found a new one is not
 /// made, unless that is allowed.
-fn keep(held: Held, growing: &Growing, tally: &Tally, asked: Asked) -> io::Result<bool> {
+fn keep(held: Held, grown: &[u8], tally: &Tally, asked: Asked) -> io::Result<bool> {
     if tally.is_interrupted {
         return Ok(false);
     }
     match tally.accepted {
         0 if tally.files() == 0 && !asked.allow_empty => drop(held),
         0 => held.keep(),
-        _ => held.put(growing.bytes(), |back| {
+        _ => held.put(grown, |back| {
             let again = scp::index_find(back, back.len(), &[]);
             let words = |refusal| format!("it is refused when it is read back: {refusal}");
             again.map(|_| ()).map_err(words)

@@ -8,17 +8,17 @@ use borrow.Author.Tests.{leb-true, le-leb, eqb-true, ltb-true, lt-ltb}
 use lib.Dec.{leb, eqb, ltb}
 use lib.ListN.{length, take, drop, length-append, length-take, length-drop, take-append-drop}
 use lib.Seq.{take-at, drop-at, take-all, take-length, take-add, drop-drop}
-use Rattle.wire.specs.RuleWords.{every}
+use Rattle.wire.specs.RuleWords.{every, areBytes}
 use Rattle.wire.proofs.Every.{every-parts, every-cut}
 use Rattle.bits.specs.Bits.{highFirst, bitsIn, numberAfter, numberOf}
 use Rattle.bits.proofs.Laws.{Small, small-append, small-take, small-drop, small-highFirst, small-bitsIn, number-high, own-bits}
 use Rattle.packing.specs.Packing.{packed}
 use Rattle.packing.proofs.Laws.{Bytes, bytes-take, packed-read, packed-whole}
-use Rattle.index.specs.Entry.{Entry, headBits, entryBytes, headSize, entrySize, headNumber, entryIn, zeroBit, dateRight, entryRight, isEntry}
+use Rattle.index.specs.Entry.{Entry, headBits, entryBytes, headSize, entrySize, headNumber, entryIn, zeroBit, dateRight, yearFits, entryRight, isEntry}
 use Rattle.index.specs.Index.{indexBytes, bytesIn, entriesFrom, entriesIn, isIndex}
+use Rattle.index.specs.InnerSteps.{Whole}
 use Rattle.index.proofs.Heads.{head-length, head-bits, head-small, identifier-length, entry-cut, entry-fits, entry-kept}
-use Rattle.index.proofs.Walk.{entries-step}
-use Rattle.afresh.specs.Afresh.{areBytes, yearFits}
+use Rattle.index.proofs.Walk.{entries-step, index-whole}
 
 -- an entry has as many bytes as its size says
 pub entry-length : (e : Entry) → length (entryBytes e) ≡ entrySize e
@@ -232,13 +232,16 @@ back-from (suc n) s b =
     go false e later = refl
     go true e later = rw (entry-bytes-back s b e, later) (sym (take-add (entrySize (entryIn s)) _ s))
 
--- an index is the bytes of its entries
+-- where entries take up all bytes from a place on, these are the entries' bytes
+pub whole-bytes : (s : List ℕ) (at : ℕ) → areBytes s ≡ true → Whole s at → indexBytes (entriesIn (drop at s)) ≡ drop at s
+unfolding entriesIn
+whole-bytes s at b w =
+    let t = drop at s in
+    back-from (length t) t (every-cut (λ b. ltb b 256) at s b .1) ∙ take-all (bytesIn (entriesIn t)) t (omega (arith, w, length-drop at s))
+
+-- so an index is the bytes of its entries
 pub bytes-back : (s : List ℕ) → areBytes s ≡ true → isIndex s ≡ true → indexBytes (entriesIn s) ≡ s
-unfolding isIndex entriesIn
-bytes-back s b h =
-    let n = bytesIn (entriesFrom (length s) s) in
-    let whole = eqb-true n (length s) (and-eq-true-iff (eqb n (length s)) _ .0 h .0) in
-    back-from (length s) s b ∙ rw whole (take-length s)
+bytes-back s b h = whole-bytes s 0 b (index-whole s h)
 
 -- ---- the rules of the entries that bytes hold
 

@@ -9,16 +9,16 @@ use borrow.Author.Tests.{lt-ltb}
 use lib.Dec.{ltb}
 use lib.ListN.{length, getD, take}
 use lib.Seq.{take-all, take-suc}
 use Rattle.wire.specs.RuleWords.{every}
 use Rattle.wire.proofs.Every.{every-more}
-use Rattle.answers.proofs.bytes_fit.Statement.{statement}
-use Rattle.answers.proofs.bytes_fit.Tie as tie
+use Rattle.wire.proofs.bytes_fit.Statement.{statement}
+use Rattle.wire.proofs.bytes_fit.Tie as tie
 
 abbrev Inv-loop : tie.InvT-loop
-Inv-loop bytes i₀ i = (i ≤ length bytes) × (every (λ (b : ℕ). ltb b 256) (take i bytes) ≡ true)
+Inv-loop s i₀ i = (i ≤ length s) × (every (λ (b : ℕ). ltb b 256) (take i s) ≡ true)
 
 abbrev μ-loop : tie.MeasureT-loop
-μ-loop bytes i₀ i = length bytes - i
+μ-loop s i₀ i = length s - i
 
 loop-holds : tie.Need-loop-holds Inv-loop μ-loop
 unfolding every
@@ -35,14 +35,14 @@ loop-less c = omega arith
 
 loop-again : tie.Need-loop-again Inv-loop μ-loop
 loop-again c =
-    let s = c .before .before .before .args .bytes .now in
+    let s = c .before .before .before .args .s .now in
     let l = c .before .before .loop in
     let small = lt-ltb (getD s (l .i) 0) 256 (omega (arith, c .shared-slice-known .given (l .i))) in
     (omega arith, rw (add-one (l .i), take-suc s (l .i) 0 (omega arith)) (every-more (λ (b : ℕ). ltb b 256) (take (l .i) s) (getD s (l .i) 0) (l .inv .1) small))
 
 returns : tie.Need-returns Inv-loop μ-loop
 returns c =
-    let s = c .before .before .args .bytes .now in
+    let s = c .before .before .args .s .now in
     let l = c .before .loop in
     rw (take-all (l .i) s (omega arith)) at (l .inv .1)
 

@@ -1,0 +1,145 @@
+//! An index of many records, made as a merge sort makes a sorted list: each record is a run of one by itself, and runs are
+//! merged into longer ones.
+//!
+//! Only neighbours are merged, the earlier one first, so that equal entries stay in the order of arrival. The index then has
+//! the bytes that adding the records one by one gives, whichever neighbours are merged when: that is proved of the library.
+
+use scp::{Refusal, ENTRY_MAX};
+
+/// The index of some records that arrived one after the other.
+pub struct Run {
+    index: Vec<u8>,
+    records: usize,
+}
+
+impl Run {
+    /// The run of one record, if the library does not refuse it.
+    pub fn of(record: &[u8]) -> Result<Run, Refusal> {
+        let mut index = vec![0; ENTRY_MAX];
+        let used = scp::index_add(&mut index, 0, record)?;
+        index.truncate(used);
+        Ok(Run { index, records: 1 })
+    }
+
+    /// This run and the one that arrived after it, in one.
+    fn with(&self, later: &Run) -> Run {
+        Run {
+            index: merged(&self.index, &later.index),
+            records: self.records + later.records,
+        }
+    }
+}
+
+/// The runs of all records that arrived so far, in the order of arrival. Each has more records than the one after it.
+#[derive(Default)]
+pub struct Runs(Vec<Run>);
+
+impl Runs {
+    /// Takes the run that arrived next. The last two are merged while the earlier one has no more records than the later one.
+    /// Of runs of one record each, these two are equally long: so n records are merged in time n log n.
+    pub fn push(&mut self, run: Run) {
+        self.0.push(run);
+        while let [.., earlier, later] = &self.0[..] {
+            if earlier.records > later.records {
+                break;
+            }
+            let both = earlier.with(later);
+            self.0.truncate(self.0.len() - 2);
+            self.0.push(both);
+        }
+    }
+
+    /// An index with all of these records added to it. Short runs are merged first.
+    pub fn added_to(&self, index: &[u8]) -> Vec<u8> {
+        let runs = self.0.iter().rev();
+        let all = runs.fold(Vec::new(), |later, run| merged(&run.index, &later));
+        merged(index, &all)
+    }
+}
+
+/// The index of two, of which the second one arrived later.
+fn merged(earlier: &[u8], later: &[u8]) -> Vec<u8> {
+    let mut both = vec![0; earlier.len() + later.len()];
+    let used = scp::index_merge(earlier, later, &mut both);
+    both.truncate(used.expect("both are indexes, and there is room for them"));
+    both
+}
+
+#[cfg(test)]
+mod tests {
+    use scp::{Job, ENTRY_MAX};
+
+    use super::{Run, Runs};
+
+    /// More than 256, and no power of 2.
+    const RECORDS: usize = 300;
+
+    /// A record of one of five patients and three days. Equal ones differ in their leads, which are no part of the order.
+    fn record(number: usize) -> Vec<u8> {
+        let patient = [&b"1"[..], b"10", b"007", b"7", b"Z"][number * 7 % 5];
+        let day = [1, 31, 14][number / 5 % 3];
+        let leads = 1 + number % 32;
+        let mut section1 = vec![2, patient.len() as u8 + 1, 0];
+        section1.extend(patient);
+        section1.extend([0, 14, 0, 0, 25, 4, 0, 232, 7, 3, day]);
+        section1.extend([26, 3, 0, 9, 26, 53, 255, 0, 0]);
+        let job = Job {
+            section1: &section1,
+            section2: &[],
+            version: 13,
+            flags: 0,
+            step: 5000,
+            interval: 2000,
+            order: 0,
+            firsts: &vec![1; leads],
+            counts: &vec![1; leads],
+            ids: &vec![1; leads],
+            samples: &vec![7; leads],
+        };
+        scp::written(&job).unwrap()
+    }
+
+    /// The indexes of the first 0, 1, 2 and so on of these records, each one made by adding a record to the one before it.
+    fn one_by_one(records: &[Vec<u8>]) -> Vec<Vec<u8>> {
+        let mut indexes = vec![Vec::new()];
+        for (number, record) in records.iter().enumerate() {
+            let mut index = indexes[number].clone();
+            let used = index.len();
+            index.resize(used + ENTRY_MAX, 0);
+            let used = scp::index_add(&mut index, used, record).unwrap();
+            index.truncate(used);
+            indexes.push(index);
+        }
+        indexes
+    }
+
+    /// However many records there are, and however many of them are in the index before.
+    #[test]
+    fn the_index_is_that_of_adding_one_by_one() {
+        let records: Vec<Vec<u8>> = (0..RECORDS).map(record).collect();
+        let indexes = one_by_one(&records);
+        for old in [0, 1, 100] {
+            let mut runs = Runs::default();
+            assert_eq!(runs.added_to(&indexes[old]), indexes[old]);
+            for number in old..RECORDS {
+                runs.push(Run::of(&records[number]).unwrap());
+                let index = runs.added_to(&indexes[old]);
+                assert_eq!(index, indexes[number + 1], "{old}, {number}");
+            }
+        }
+    }
+
+    /// Two runs of as many records never wait: there is one for each binary digit 1 of the number of records.
+    #[test]
+    fn few_runs_wait() {
+        let record = record(0);
+        let mut runs = Runs::default();
+        for number in 1..=RECORDS {
+            runs.push(Run::of(&record).unwrap());
+            let records: Vec<usize> = runs.0.iter().map(|run| run.records).collect();
+            let digits = (0..usize::BITS).rev().map(|place| 1 << place);
+            let wanted: Vec<usize> = digits.filter(|digit| number & digit != 0).collect();
+            assert_eq!(records, wanted);
+        }
+    }
+}
