@@ -1,20 +1,18 @@
 -- Merging two indexes gives that of the records of both, and so building by runs gives what adding one by one gives. Assumes nothing.
 use Prim.Native.Nat.{ℕ, _+_, _≤_}
-use mathlib.Core.Path.{_≡_, refl, sym, ap, _∙_}
-use mathlib.Core.Bool.{Bool, true}
+use mathlib.Core.Path.{_≡_, refl, _∙_}
+use mathlib.Core.Bool.{true}
 use mathlib.Core.List.{List, [], _∷_, _++_, map-append, append-assoc, append-nil}
 use native.Mathlib.Omega.{arith}
-use lib.ListN.{length, take, drop}
+use lib.ListN.{length, take}
 use borrow.Author.Tests.{le-leb}
 use Rattle.wire.specs.RuleWords.{every, areBytes}
 use Rattle.wire.proofs.Every.{every-split, every-join}
-use Rattle.index.specs.Entry.{Entry, entrySize, yearFits, entryRight}
-use Rattle.index.specs.Index.{indexBytes, bytesIn, entriesIn, isIndex, indexRight, placed}
+use Rattle.index.specs.Entry.{Entry, yearFits, entryRight}
+use Rattle.index.specs.Index.{indexBytes, bytesIn, entriesIn, indexRight, placed}
 use Rattle.index.proofs.Walk.{index-whole, index-ordered}
 use Rattle.index.proofs.Bytes.{index-length, entries-back, entries-right, years-fit}
-use Rattle.arranged.specs.Arranged.{Arranged}
 use Rattle.arranged.proofs.Arranging.{in-order, rule-kept}
-use Rattle.filing.specs.Filing.{entryOf}
 use Rattle.merging.specs.Merging.{merged, mergeRefusal, mergeAnswer, mergedInto}
 use Rattle.merging.proofs.Merged.{all-kept, merged-arranged}
 use Rattle.afresh.specs.Afresh.{filable, BuiltAfresh, StoredAny, AddedAll, Stored}

@@ -15,7 +15,7 @@ fn wide(x: u8) -> u64
 
 // The eight bytes from i on, the first highest. The compiler makes one load and one swap of bytes of this sum, since it adds the last
 // byte first.
-fn word(s: &[u8], i: usize) -> u64
+pub fn word(s: &[u8], i: usize) -> u64
     requires { ⌜ i + 8 ≤ length (now s) ⌝ }
     ensures { λ r. ⌜ r ≡ numberOf (take 64 (drop (i * 8) (bitsIn (now (s .entry))))) ⌝ }
 {

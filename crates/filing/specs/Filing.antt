@@ -1,7 +1,7 @@
 -- Adding a record to the auditor's index (02, Q-13). `lent` is the lent index, of which the first `used` bytes are in use, and r the bytes
 -- of the record.
 use Prim.Native.Nat.{ℕ, _+_}
-use mathlib.Core.Bool.{Bool, not, _&&_, _||_, cond}
+use mathlib.Core.Bool.{Bool, not, _||_, cond}
 use mathlib.Core.List.{List, _++_}
 use lib.Dec.{leb, eqb}
 use lib.ListN.{length, take, drop}

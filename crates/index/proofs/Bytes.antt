@@ -4,10 +4,10 @@ use mathlib.Core.Path.{_≡_, refl, sym, ap, _∙_}
 use mathlib.Core.Bool.{Bool, true, false, not, _&&_, cond, and-eq-true-iff}
 use mathlib.Core.List.{List, [], _∷_, _++_, append-assoc, append-nil}
 use native.Mathlib.Omega.{arith}
-use borrow.Author.Tests.{leb-true, le-leb, eqb-true, ltb-true, lt-ltb}
+use borrow.Author.Tests.{leb-true, le-leb, ltb-true, lt-ltb}
 use lib.Dec.{leb, eqb, ltb}
 use lib.ListN.{length, take, drop, length-append, length-take, length-drop, take-append-drop}
-use lib.Seq.{take-at, drop-at, take-all, take-length, take-add, drop-drop}
+use lib.Seq.{take-at, drop-at, take-all, take-add, drop-drop}
 use Rattle.wire.specs.RuleWords.{every, areBytes}
 use Rattle.wire.proofs.Every.{every-parts, every-cut}
 use Rattle.bits.specs.Bits.{highFirst, bitsIn, numberAfter, numberOf}

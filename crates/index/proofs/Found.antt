@@ -6,12 +6,11 @@ use mathlib.Core.List.{List}
 use native.Mathlib.Omega.{arith}
 use lib.Dec.{leb, eqb}
 use lib.ListN.{length, take, drop, length-take}
-use borrow.Author.Tests.{eqb-true, eq-eqb, ne-eqb}
+use borrow.Author.Tests.{eq-eqb, ne-eqb}
 use Rattle.wire.proofs.Laws.{unlike}
 use Rattle.fields.specs.declared.Place.the-variants.{At, Refused}
 use Rattle.index.specs.Entry.{Entry}
-use Rattle.index.specs.Order.{inOrder}
-use Rattle.index.specs.Index.{bytesIn, entriesIn, isIndex, indexRight, front, behind, smaller, has, partOrNone, found, findPlace}
+use Rattle.index.specs.Index.{bytesIn, entriesIn, indexRight, front, behind, smaller, has, partOrNone, found, findPlace}
 use Rattle.index.specs.InnerSteps.{Whole, Passed}
 use Rattle.index.proofs.Walk.{bytes-split, index-whole}
 

@@ -37,15 +37,15 @@ pub struct Date {
 // The bytes of an entry in front of its identifier.
 pub const HEAD_SIZE: usize = 5;
 
-// The bytes that a window is made of at once, where they are there; near the end it is put together in a loop.
-const WINDOW_SIZE: usize = 8;
+// The bytes of a word. A window is made of so many at once, where they are there; near the end it is put together in a loop.
+const WORD_SIZE: usize = 8;
 
 // A window on the first five bytes of an entry.
 fn head_at(s: &[u8], at: usize) -> u64
     requires { ⌜ at + 5 ≤ length (now s) ⌝ }
     ensures { λ r. ⌜ Window (bitsIn (take 5 (drop at (now (s .entry))))) r ⌝ }
 {
-    bits::window(wire::part_of(s, at, at + WINDOW_SIZE), 0)
+    bits::window(wire::part_of(s, at, at + WORD_SIZE), 0)
 }
 
 // The numbers of these bytes keep their rules.
@@ -180,12 +180,14 @@ fn shorter(a: usize, b: usize) -> usize
     b
 }
 
-// One identifier and day come before others: the first bytes that differ decide, then which identifier ends first, then the days.
-pub fn is_before(a: &[u8], date: Date, b: &[u8], other: Date) -> bool
-    ensures { λ r. ⌜ r ≡ beforeBy (now (a .entry)) date (now (b .entry)) other ⌝ }
+// What is left of two identifiers, from a place within both on, and the days: the first bytes that differ decide, then which identifier ends
+// first, then the days.
+fn rest_before(a: &[u8], date: Date, b: &[u8], other: Date, from: usize) -> bool
+    requires { ⌜ (from ≤ length (now a)) × (from ≤ length (now b)) ⌝ }
+    ensures { λ r. ⌜ r ≡ beforeBy (drop from (now (a .entry))) date (drop from (now (b .entry))) other ⌝ }
 {
     let n = shorter(a.len(), b.len());
-    let mut i = 0;
+    let mut i = from;
     while i < n {
         if a[i] != b[i] {
             return a[i] < b[i];
@@ -196,6 +198,26 @@ pub fn is_before(a: &[u8], date: Date, b: &[u8], other: Date) -> bool
         return a.len() < b.len();
     }
     is_earlier(date, other)
+}
+
+// One identifier and day come before others. Eight bytes are compared at once, as numbers with the first byte highest, as long as both have
+// so many.
+pub fn is_before(a: &[u8], date: Date, b: &[u8], other: Date) -> bool
+    ensures { λ r. ⌜ r ≡ beforeBy (now (a .entry)) date (now (b .entry)) other ⌝ }
+{
+    wire::bytes_fit(a);
+    wire::bytes_fit(b);
+    let n = shorter(a.len(), b.len());
+    let mut i = 0;
+    while WORD_SIZE <= n - i {
+        let v = bits::word(a, i);
+        let w = bits::word(b, i);
+        if v != w {
+            return v < w;
+        }
+        i += WORD_SIZE;
+    }
+    rest_before(a, date, b, other, i)
 }
 
 // The day that a step shows.

@@ -1,12 +1,11 @@
--- Identifiers are compared from the first byte on: as long as they agree, what is left decides; the first bytes that differ decide, or the
--- end of one; where both end, the days do.
+-- Identifiers are compared word by word: as long as the words agree, what is left decides; the first that differ decide. The rest is
+-- compared byte by byte.
 use Prim.Native.Nat.{_-_, _≤_}
 use mathlib.Core.Path.{_≡_, refl, sym, _∙_}
-use native.Mathlib.Numerals.{add-one}
 use native.Mathlib.Omega.{arith}
 use lib.ListN.{drop}
 use Rattle.index.specs.InnerSteps.{beforeBy}
-use Rattle.index.proofs.Less.{decided-turn, decided-here, decided-ended, decided-same}
+use Rattle.index.proofs.Words.{words-equal, words-differ}
 use borrow.Author.Needs.{needs}
 use Rattle.index.proofs.is_before.Statement.{statement}
 use Rattle.index.proofs.is_before.Tie as tie
@@ -17,57 +16,55 @@ Inv-loop a date b other n i₀ i = (i ≤ n) × (beforeBy (drop i a) date (drop 
 abbrev μ-loop : tie.MeasureT-loop
 μ-loop a date b other n i₀ i = n - i
 
+bytes-fit-requires : tie.Need-bytes-fit-requires Inv-loop μ-loop
+bytes-fit-requires c κs = search needs
+
+bytes-fit-requires-2 : tie.Need-bytes-fit-requires-2 Inv-loop μ-loop
+bytes-fit-requires-2 c κs = search needs
+
 shorter-requires : tie.Need-shorter-requires Inv-loop μ-loop
 shorter-requires c κs = search needs
 
 loop-holds : tie.Need-loop-holds Inv-loop μ-loop
 loop-holds c = (omega arith, refl)
 
-shared-slice-read-if1 : tie.Need-shared-slice-read-if1 Inv-loop μ-loop
-shared-slice-read-if1 c = search needs
+sub-loop : tie.Need-sub-loop Inv-loop μ-loop
+sub-loop c = search needs
 
-shared-slice-read-if1-2 : tie.Need-shared-slice-read-if1-2 Inv-loop μ-loop
-shared-slice-read-if1-2 c = search needs
+word-requires : tie.Need-word-requires Inv-loop μ-loop
+word-requires c κs = omega arith
 
-shared-slice-read-result : tie.Need-shared-slice-read-result Inv-loop μ-loop
-shared-slice-read-result c = search needs
-
-shared-slice-read-result-2 : tie.Need-shared-slice-read-result-2 Inv-loop μ-loop
-shared-slice-read-result-2 c = search needs
+word-requires-2 : tie.Need-word-requires-2 Inv-loop μ-loop
+word-requires-2 c κs = omega arith
 
 returns : tie.Need-returns Inv-loop μ-loop
 returns c =
-    let l = c .before .before .before .before .before .before in
-    let a = l .before .before .before .before .args in
-    sym (decided-here (a .a .now) (a .b .now) (l .loop .i) _ (omega arith) (omega arith) (c .before .before .if1 .taken)) ∙ l .loop .inv .1
+    let l = c .before .before .before .before in
+    let a = l .before .before .before .before .before .before .args in
+    let v = c .before .before .word .ensures in
+    let w = c .before .word2 .ensures in
+    let decides = words-differ (a .a .now) (a .b .now) (l .loop .i) _ (l .before .before .before .bytes-fit .ensures) (l .before .before .bytes-fit2 .ensures) (omega arith) (omega arith) (λ e. c .if1 .taken (v ∙ e ∙ sym w)) in
+    rw (v, w) (sym decides ∙ l .loop .inv .1)
 
 add-i : tie.Need-add-i Inv-loop μ-loop
-add-i c = search needs
+add-i c = omega arith
 
 loop-less : tie.Need-loop-less Inv-loop μ-loop
-loop-less c = search needs
+loop-less c = omega arith
 
 loop-again : tie.Need-loop-again Inv-loop μ-loop
 loop-again c =
     let l = c .before .before .before .before in
-    let a = l .before .before .before .before .args in
-    let turn = decided-turn (a .a .now) (a .b .now) (l .loop .i) _ (omega arith) (omega arith) (c .if1 .left) in
-    (omega arith, rw add-one (sym turn ∙ l .loop .inv .1))
+    let a = l .before .before .before .before .before .before .args in
+    let equal = sym (c .before .before .word .ensures) ∙ c .if1 .left ∙ c .before .word2 .ensures in
+    let turn = words-equal (a .a .now) (a .b .now) (l .loop .i) _ (l .before .before .before .bytes-fit .ensures) (l .before .before .bytes-fit2 .ensures) (omega arith) (omega arith) equal in
+    (omega arith, sym turn ∙ l .loop .inv .1)
+
+rest-before-requires : tie.Need-rest-before-requires Inv-loop μ-loop
+rest-before-requires c κs = (omega arith, omega arith)
 
 returns-2 : tie.Need-returns-2 Inv-loop μ-loop
-returns-2 c =
-    let l = c .before .before in
-    let a = l .before .before .before .before .args in
-    sym (decided-ended (a .a .now) (a .b .now) (l .loop .i) _ (omega arith) (c .if2 .taken)) ∙ l .loop .inv .1
-
-is-earlier-requires : tie.Need-is-earlier-requires Inv-loop μ-loop
-is-earlier-requires c κs = search needs
-
-returns-3 : tie.Need-returns-3 Inv-loop μ-loop
-returns-3 c =
-    let l = c .before .before .before in
-    let a = l .before .before .before .before .args in
-    c .is-earlier .ensures ∙ sym (decided-same (a .a .now) (a .b .now) (l .loop .i) _ (omega arith) (c .before .if2 .left)) ∙ l .loop .inv .1
+returns-2 c = c .rest-before .ensures ∙ c .before .before .loop .inv .1
 
 pub is-before-spec : {M : Type 1} → statement M
 is-before-spec =
@@ -75,16 +72,16 @@ is-before-spec =
     (tie.spec
     Inv-loop
     μ-loop
+    bytes-fit-requires
+    bytes-fit-requires-2
     shorter-requires
     loop-holds
-    shared-slice-read-if1
-    shared-slice-read-if1-2
-    shared-slice-read-result
-    shared-slice-read-result-2
+    sub-loop
+    word-requires
+    word-requires-2
     returns
     add-i
     loop-less
     loop-again
-    returns-2
-    is-earlier-requires
-    returns-3)
+    rest-before-requires
+    returns-2)

@@ -6,7 +6,6 @@ use mathlib.Core.List.{List}
 use native.Mathlib.Omega.{arith}
 use lib.ListN.{length, length-append, length-drop}
 use lib.Seq.{length-take-le}
-use Rattle.wire.specs.Numbers.{part}
 use Rattle.fields.specs.Identifier.{same}
 use Rattle.wire.proofs.Places.{part-length}
 use Rattle.index.specs.Order.{less, dateOf, before}
