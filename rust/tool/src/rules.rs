@@ -32,7 +32,9 @@ fn given_by(given: Given) -> &'static str {
         Given::Lending => "Only programs that call the library see this.",
         Given::Writing => "Given by write.",
         Given::Adding => "Given by index add.",
-        Given::Indexes => "Given by index add, index find, index list and index check.",
+        Given::Indexes => {
+            "Given by index add, index merge, index find, index list and index check."
+        }
     }
 }
 

@@ -21,6 +21,12 @@ impl Run {
         Ok(Run { index, records: 1 })
     }
 
+    /// The run of an index, whose records arrived one after the other.
+    pub fn of_index(index: Vec<u8>) -> Run {
+        let records = scp::index_entries(&index).count();
+        Run { index, records }
+    }
+
     /// This run and the one that arrived after it, in one.
     fn with(&self, later: &Run) -> Run {
         Run {

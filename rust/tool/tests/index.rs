@@ -10,49 +10,12 @@ use std::process::{Command, Stdio};
 use std::thread;
 use std::time::Instant;
 
+use common::filed::{built, record, SAMPLES};
 use common::folder::Folder;
-use common::record::{put, seal, section};
+use common::record::{seal, section};
 use common::waiting::Waiting;
 use common::{run, run_in, run_with_input, sample, samples, tool, Ran, NOTE};
-use scp::Job;
 use serde_json::{json, Value};
-
-/// A date: the year, the month and the day.
-type Date = (u16, u8, u8);
-
-/// The date of the samples.
-const SAMPLES: Date = (2024, 3, 14);
-
-/// A record of this patient and date with so many leads, or with neither Section 3 nor Section 6.
-fn record(identifier: &[u8], (year, month, day): Date, leads: usize) -> Vec<u8> {
-    let [low, high] = year.to_le_bytes();
-    let mut section1 = vec![2, identifier.len() as u8 + 1, 0];
-    section1.extend(identifier);
-    section1.extend([0, 14, 0, 0, 25, 4, 0, low, high, month, day]);
-    section1.extend([26, 3, 0, 9, 26, 53, 255, 0, 0]);
-    let written = leads.max(1);
-    let job = Job {
-        section1: &section1,
-        section2: &[],
-        version: 13,
-        flags: 0,
-        step: 5000,
-        interval: 2000,
-        order: 0,
-        firsts: &vec![1; written],
-        counts: &vec![2; written],
-        ids: &vec![1; written],
-        samples: &vec![7; 2 * written],
-    };
-    let mut record = scp::written(&job).unwrap();
-    if leads == 0 {
-        for id in [3, 6] {
-            put(&mut record, 6 + 16 + 10 * id + 2, 0);
-        }
-        seal(&mut record);
-    }
-    record
-}
 
 /// A record whose Section 3 says that it has 33 leads.
 fn too_many_leads() -> Vec<u8> {
@@ -61,11 +24,6 @@ fn too_many_leads() -> Vec<u8> {
     record[at] = 33;
     seal(&mut record);
     record
-}
-
-/// The index of these records, by the judge.
-fn built<'a>(records: impl IntoIterator<Item = &'a Vec<u8>>) -> Vec<u8> {
-    judge::built_index(records.into_iter().map(Vec::as_slice))
 }
 
 /// The bytes of the file `audit.idx`.
@@ -88,6 +46,9 @@ fn a_bad_command_line_is_told() {
         &["add"],
         &["add", "a.idx"],
         &["add", "--csv", "a.idx", "."],
+        &["merge"],
+        &["merge", "a.idx"],
+        &["merge", "--jobs", "2", "a.idx", "b.idx"],
         &["find", "a.idx"],
         &["find", "a.idx", "007", "7"],
         &["list"],
@@ -672,6 +633,9 @@ fn a_damaged_index_is_refused_and_explained() {
         }
         let ran = add(&folder, &["good.scp"]);
         let told = format!("{checked}\naudit.idx: nothing was added\n");
+        assert_eq!((ran.status, ran.out), (1, told));
+        let ran = run_in(&folder, &["index", "merge", "audit.idx", "audit.idx"]);
+        let told = format!("{checked}\naudit.idx: nothing was merged\n");
         assert_eq!((ran.status, ran.out), (1, told));
         assert_eq!(audit(&folder), bytes);
     }

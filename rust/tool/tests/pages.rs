@@ -230,6 +230,7 @@ fn the_manual_can_be_read() {
             "(bash, elvish, fish, powershell, zsh)",
             "tigmavresh check [OPTIONS] PATH...",
             "tigmavresh index add [OPTIONS] INDEX PATH...",
+            "tigmavresh index merge [OPTIONS] INDEX OTHER...",
             "tigmavresh index find [OPTIONS] INDEX IDENTIFIER",
             "--jobs N",
         ] {

@@ -155,6 +155,11 @@ fn the_commands_on_an_index_keep_the_schema() {
     for words in [&["list", "none.idx"][..], &["find", "none.idx", "7"]] {
         assert_eq!(index(words), index(&["check", "none.idx"]));
     }
+    let (status, lines) = index(&["merge", "all.idx", "audit.idx", "odd.idx", "audit.idx"]);
+    let merged = json!({"file": "all.idx", "bytes": 255, "added": 31, "entries": 31});
+    assert_eq!((status, &lines[0]["index"]), (0, &merged));
+    let (status, lines) = index(&["merge", "all.idx", "none.idx", "no.idx"]);
+    assert_eq!((status, lines.len()), (2, 3));
     let (status, refused) = index(&["add", "none.idx", "samples/7.scp"]);
     assert_eq!((status, &refused[0]["refusal"]), (1, &json!(26)));
     assert_eq!(refused[0]["bytes"], 2);

@@ -11,15 +11,16 @@ use super::jobs;
 pub const ALL: &str = "\
 Exit status:
   0  the work was done
-  1  some record was refused, or INDEX was, or there is no entry of the identifier
+  1  some record was refused, or an index was, or there is no entry of the
+     identifier
   2  the work, or some of it, could not be done: a file could not be read or
-     written, another run was adding to INDEX, or the command line is not
+     written, another run was writing to INDEX, or the command line is not
      understood
   130  add was interrupted (Ctrl-C)
 
 For the help of one of them: tigmavresh help index COMMAND";
 
-/// The end of the help of the command that changes an index.
+/// The end of the help of the command that adds records to an index.
 const ADDING: &str = "\
 Exit status:
   0  every record was added
@@ -30,6 +31,17 @@ Exit status:
      it (nothing was added), no file was found, or the command line is not
      understood
   130  it was interrupted (Ctrl-C), and INDEX is as it was";
+
+/// The end of the help of the command that merges indexes.
+const MERGING: &str = "\
+Exit status:
+  0  every OTHER was merged into INDEX
+  1  INDEX or some OTHER was refused, and nothing was merged
+  2  the work could not be done, and nothing was merged: some OTHER could not be
+     read, INDEX could not be written or another run was writing to it, or the
+     command line is not understood
+
+An OTHER of - is standard input.";
 
 /// The end of the help of the command that looks an identifier up.
 const FINDING: &str = "\
@@ -109,6 +121,31 @@ pub enum Index {
         /// How many records to read at once; by default as many as there are cores
         #[arg(long, value_name = "N", value_parser = jobs)]
         jobs: Option<u16>,
+    },
+    /// Merge indexes into an index
+    ///
+    /// Each OTHER is an index, as add makes it. INDEX then has its own entries and those
+    /// of all OTHERs, as if their records had been added to it one after another: of
+    /// equal entries its own stand first, and then those of each OTHER in turn. An OTHER
+    /// is merged as often as it is given; INDEX itself is none.
+    ///
+    /// INDEX is made if it is not there. It is replaced at the end, whole or not at all,
+    /// and locked until then, as add has it. If INDEX or some OTHER is no index (26), or
+    /// some OTHER cannot be read, it is said why, and nothing is merged.
+    ///
+    /// As JSON there is an object in each line, for each OTHER that was refused or not
+    /// read, and the last one is the summary.
+    #[command(verbatim_doc_comment, after_help = MERGING)]
+    Merge {
+        /// The index
+        #[arg(value_name = "INDEX")]
+        index: PathBuf,
+        /// The indexes that are merged into it
+        #[arg(value_name = "OTHER", required = true)]
+        others: Vec<PathBuf>,
+        /// As JSON, an object in each line
+        #[arg(long)]
+        json: bool,
     },
     /// Show the entries of an identifier
     ///

@@ -2,6 +2,7 @@
 
 #![allow(dead_code)]
 
+pub mod filed;
 pub mod folder;
 pub mod record;
 pub mod schema;

@@ -3,22 +3,19 @@
 use std::io;
 use std::path::{Path, PathBuf};
 
-use super::{complain, judged};
+use super::{hold, put};
 use crate::filed::{how_many, Filed};
 use crate::held::Held;
-use crate::input::{self, Input, Size};
+use crate::input::{self, Size};
 use crate::json;
 use crate::many::{self, Many};
 use crate::output::Output;
-use crate::paths::{is_standard, shown};
+use crate::paths::shown;
 use crate::refused::{self, Refused};
 use crate::runs::{Run, Runs};
 use crate::status::Status;
 use crate::tally::Tally;
 use crate::text::parted;
-
-/// Said of standard input as an index to add to.
-const NO_FILE: &str = "INDEX must be a file: it is read, and written anew";
 
 /// The options.
 #[derive(Clone, Copy)]
@@ -46,22 +43,10 @@ pub fn run(
     jobs: Option<u16>,
     output: &mut Output,
 ) -> Status {
-    if is_standard(index) {
-        output.remark(&[NO_FILE.to_string()]);
-        return Status::NotDone;
-    }
-    let held = Held::at(index).and_then(|mut held| Ok((held.read()?, held)));
-    let (bytes, held) = match held {
+    let (held, bytes) = match hold(index, "nothing was added", asked.json, output) {
         Ok(held) => held,
-        Err(error) => {
-            complain(index, &error, asked.json, output);
-            return Status::NotDone;
-        }
+        Err(status) => return status,
     };
-    if let Err(refused) = judged(&bytes) {
-        held.keep();
-        return refuse(index, Input::whole(bytes), &refused, asked, output);
-    }
     let many = Many {
         paths,
         without: Some(held.identity()),
@@ -98,28 +83,6 @@ fn read(_: &mut (), file: &Path) -> io::Result<Answer> {
     })
 }
 
-/// Says that the index is refused, and that nothing is added to it.
-fn refuse(
-    index: &Path,
-    input: Input,
-    refused: &Refused,
-    asked: Asked,
-    output: &mut Output,
-) -> Status {
-    match asked.json {
-        true => {
-            let about = json::About::<json::Extended>::judged(index, input.size, Some(refused));
-            output.line(json::line(&about.noted()));
-        }
-        false => {
-            output.lines(refused.text(index, &input));
-            output.block();
-            output.line(format_args!("{}: nothing was added", shown(index)));
-        }
-    }
-    Status::Refused
-}
-
 /// Adds one record, or shows why it is refused.
 fn take(
     runs: &mut Runs,
@@ -154,11 +117,7 @@ fn keep(held: Held, grown: &[u8], tally: &Tally, asked: Asked) -> io::Result<boo
     match tally.accepted {
         0 if tally.files() == 0 && !asked.allow_empty => drop(held),
         0 => held.keep(),
-        _ => held.put(grown, |back| {
-            let again = scp::index_find(back, back.len(), &[]);
-            let words = |refusal| format!("it is refused when it is read back: {refusal}");
-            again.map(|_| ()).map_err(words)
-        })?,
+        _ => put(held, grown)?,
     }
     Ok(true)
 }

@@ -70,13 +70,9 @@ fn refuse(
     form: Form,
     output: &mut Output,
 ) -> Status {
-    match form {
-        Form { json: true, .. } => {
-            let about = json::About::<json::Extended>::judged(index, input.size, Some(refused));
-            output.line(json::line(&about.noted()));
-        }
-        Form { csv: true, .. } => output.remark(&refused.text(index, input)),
-        _ => output.lines(refused.text(index, input)),
+    match form.csv {
+        true => output.remark(&refused.text(index, input)),
+        false => super::refuse(index, input, refused, form.json, output),
     }
     Status::Refused
 }
