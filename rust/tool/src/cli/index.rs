@@ -127,7 +127,7 @@ pub enum Index {
     /// Each OTHER is an index, as add makes it. INDEX then has its own entries and those
     /// of all OTHERs, as if their records had been added to it one after another: of
     /// equal entries its own stand first, and then those of each OTHER in turn. An OTHER
-    /// is merged as often as it is given; INDEX itself is none.
+    /// is merged as often as it is given. INDEX cannot be merged into itself.
     ///
     /// INDEX is made if it is not there. It is replaced at the end, whole or not at all,
     /// and locked until then, as add has it. If INDEX or some OTHER is no index (26), or
