@@ -43,12 +43,7 @@ fn grown(table: &mut Table, entries: usize) -> Grown {
     let index = by_library();
     assert!(by_plain().as_ref() == Some(&index));
     let name = format!("index of {} entries, build it", grouped(entries));
-    let built = table.line(
-        &name,
-        (entries, "Mentries"),
-        || drop(black_box(by_library())),
-        || drop(black_box(by_plain())),
-    );
+    let built = index::line(table, &name, entries, by_library, by_plain);
     let [merged, added, found] = index::worked_with(table, &index, entries);
     Grown {
         entries,

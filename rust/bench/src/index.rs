@@ -129,22 +129,29 @@ fn few_between(entries: usize) -> Vec<u8> {
     (0..FEW).flat_map(made).collect()
 }
 
+/// A line of the table, over so many entries; the seconds that the library takes.
+pub fn line<A, B>(
+    table: &mut Table,
+    name: &str,
+    entries: usize,
+    mut library: impl FnMut() -> A,
+    mut plain: impl FnMut() -> B,
+) -> f64 {
+    table.line(
+        name,
+        (entries, "Mentries"),
+        || drop(black_box(library())),
+        || drop(black_box(plain())),
+    )
+}
+
 /// Looking up an identifier. Both sides judge the whole index.
 fn find(table: &mut Table, name: &str, index: &[u8], entries: usize, asked: &[u8]) -> f64 {
     let by_library = || scp::index_find(black_box(index), index.len(), asked);
     let by_plain = || plain::index_find(black_box(index), asked);
     let part = by_plain().expect("it is an index");
     assert_eq!(by_library(), Ok(&index[part]));
-    table.line(
-        name,
-        (entries, "Mentries"),
-        || {
-            let _ = black_box(by_library());
-        },
-        || {
-            let _ = black_box(by_plain());
-        },
-    )
+    line(table, name, entries, by_library, by_plain)
 }
 
 /// Adding a record, time after time. All entries have one size, so that the last one falls out of what is in use each time,
@@ -156,18 +163,9 @@ fn add(table: &mut Table, name: &str, index: &[u8], entries: usize, identifier: 
     let answer = scp::index_add(&mut library, used, &record);
     assert_eq!(answer.ok(), plain::index_add(&mut plain, used, &record));
     assert!(library == plain);
-    let mut by_library = || scp::index_add(&mut library, used, black_box(&record));
-    let mut by_plain = || plain::index_add(&mut plain, used, black_box(&record));
-    table.line(
-        name,
-        (entries, "Mentries"),
-        || {
-            let _ = black_box(by_library());
-        },
-        || {
-            let _ = black_box(by_plain());
-        },
-    )
+    let by_library = || scp::index_add(&mut library, used, black_box(&record));
+    let by_plain = || plain::index_add(&mut plain, used, black_box(&record));
+    line(table, name, entries, by_library, by_plain)
 }
 
 /// Listing all entries by steps: a call of the library for each.
@@ -176,16 +174,10 @@ fn list(table: &mut Table, index: &[u8], entries: usize) {
     let by_plain = || plain::index_entries(black_box(index)).map(|entry| usize::from(entry.leads));
     assert!(by_library().eq(by_plain()));
     assert_eq!(by_library().count(), entries);
-    table.line(
-        "  list all entries by steps",
-        (entries, "Mentries"),
-        || {
-            black_box(by_library().sum::<usize>());
-        },
-        || {
-            black_box(by_plain().sum::<usize>());
-        },
-    );
+    let name = "  list all entries by steps";
+    let by_library = || by_library().sum::<usize>();
+    let by_plain = || by_plain().sum::<usize>();
+    line(table, name, entries, by_library, by_plain);
 }
 
 /// Merging few entries, spread over all of the index, into it.
@@ -206,16 +198,7 @@ fn merge(table: &mut Table, name: &str, [a, b]: [&[u8]; 2], entries: usize) -> f
     assert_eq!(answer, Ok(library.len()));
     assert_eq!(answer.ok(), plain::index_merge(a, b, &mut plain));
     assert!(library == plain);
-    let mut by_library = || scp::index_merge(black_box(a), b, &mut library);
-    let mut by_plain = || plain::index_merge(black_box(a), b, &mut plain);
-    table.line(
-        name,
-        (entries, "Mentries"),
-        || {
-            let _ = black_box(by_library());
-        },
-        || {
-            let _ = black_box(by_plain());
-        },
-    )
+    let by_library = || scp::index_merge(black_box(a), b, &mut library);
+    let by_plain = || plain::index_merge(black_box(a), b, &mut plain);
+    line(table, name, entries, by_library, by_plain)
 }

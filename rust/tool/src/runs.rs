@@ -73,64 +73,39 @@ fn merged(earlier: &[u8], later: &[u8]) -> Vec<u8> {
 
 #[cfg(test)]
 mod tests {
-    use scp::{Job, ENTRY_MAX};
-
     use super::{Run, Runs};
 
     /// More than 256, and no power of 2.
     const RECORDS: usize = 300;
 
-    /// A record of one of five patients and three days. Equal ones differ in their leads, which are no part of the order.
-    fn record(number: usize) -> Vec<u8> {
-        let patient = [&b"1"[..], b"10", b"007", b"7", b"Z"][number * 7 % 5];
-        let day = [1, 31, 14][number / 5 % 3];
-        let leads = 1 + number % 32;
-        let mut section1 = vec![2, patient.len() as u8 + 1, 0];
-        section1.extend(patient);
-        section1.extend([0, 14, 0, 0, 25, 4, 0, 232, 7, 3, day]);
-        section1.extend([26, 3, 0, 9, 26, 53, 255, 0, 0]);
-        let job = Job {
-            section1: &section1,
-            section2: &[],
-            version: 13,
-            flags: 0,
-            step: 5000,
-            interval: 2000,
-            order: 0,
-            firsts: &vec![1; leads],
-            counts: &vec![1; leads],
-            ids: &vec![1; leads],
-            samples: &vec![7; leads],
-        };
-        scp::written(&job).unwrap()
+    /// Where the identifier of an entry starts.
+    const IDENTIFIER: usize = 5;
+
+    /// The entry of one of seven patients, 14 March 2024. Equal ones differ in their leads, which are no part of the order.
+    fn entry(number: usize) -> Vec<u8> {
+        let (patient, leads) = ((number * 5 % 7) as u8, (number % 33) as u8);
+        vec![0x04, 0x1F, 0xA0, 0xDC, leads << 1, b'0' + patient]
     }
 
-    /// The indexes of the first 0, 1, 2 and so on of these records, each one made by adding a record to the one before it.
-    fn one_by_one(records: &[Vec<u8>]) -> Vec<Vec<u8>> {
-        let mut indexes = vec![Vec::new()];
-        for (number, record) in records.iter().enumerate() {
-            let mut index = indexes[number].clone();
-            let used = index.len();
-            index.resize(used + ENTRY_MAX, 0);
-            let used = scp::index_add(&mut index, used, record).unwrap();
-            index.truncate(used);
-            indexes.push(index);
-        }
-        indexes
+    /// The index of these entries: sorted by identifier, equal ones in order of arrival.
+    fn index(entries: &[Vec<u8>]) -> Vec<u8> {
+        let mut entries = entries.to_vec();
+        entries.sort_by_key(|entry| entry[IDENTIFIER]);
+        entries.concat()
     }
 
-    /// However many records there are, and however many of them are in the index before.
+    /// However many entries there are, and however many of them are in the index before.
     #[test]
-    fn the_index_is_that_of_adding_one_by_one() {
-        let records: Vec<Vec<u8>> = (0..RECORDS).map(record).collect();
-        let indexes = one_by_one(&records);
+    fn equal_entries_stay_in_order_of_arrival() {
+        let entries: Vec<Vec<u8>> = (0..RECORDS).map(entry).collect();
         for old in [0, 1, 100] {
+            let (before, arriving) = entries.split_at(old);
             let mut runs = Runs::default();
-            assert_eq!(runs.added_to(&indexes[old]), indexes[old]);
-            for number in old..RECORDS {
-                runs.push(Run::of(&records[number]).unwrap());
-                let index = runs.added_to(&indexes[old]);
-                assert_eq!(index, indexes[number + 1], "{old}, {number}");
+            assert_eq!(runs.added_to(&index(before)), index(before));
+            for (number, entry) in arriving.iter().enumerate() {
+                runs.push(Run::of_index(entry.clone()));
+                let all = index(&entries[..=old + number]);
+                assert_eq!(runs.added_to(&index(before)), all, "{old}, {number}");
             }
         }
     }
@@ -138,10 +113,9 @@ mod tests {
     /// Two runs of as many records never wait: there is one for each binary digit 1 of the number of records.
     #[test]
     fn few_runs_wait() {
-        let record = record(0);
         let mut runs = Runs::default();
         for number in 1..=RECORDS {
-            runs.push(Run::of(&record).unwrap());
+            runs.push(Run::of_index(entry(number)));
             let records: Vec<usize> = runs.0.iter().map(|run| run.records).collect();
             let digits = (0..usize::BITS).rev().map(|place| 1 << place);
             let wanted: Vec<usize> = digits.filter(|digit| number & digit != 0).collect();
