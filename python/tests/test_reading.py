@@ -3,6 +3,7 @@
 from __future__ import annotations
 
 import csv
+import ctypes
 import io
 import threading
 import unittest
@@ -11,6 +12,7 @@ from array import array
 import tigmavresh
 from common import ACCEPTED, SAMPLES, WITH_LEADS, Case, changed, sample, tool, without
 from tigmavresh import Rule
+from tigmavresh._library import scp
 
 try:
     import numpy
@@ -120,6 +122,48 @@ class Leads(Case):
             said = [(lead.id, lead.first, lead.last, lead.step, lead.interval, lead.flags) for lead in (one, other)]
             self.assertEqual(said[0], said[1])
             self.assertEqual(padded.entry(place).bytes % 2, 0)
+
+    def compared(self, name: str) -> list[int]:
+        """The structures compared for a sample's two leads."""
+        record = tigmavresh.open(sample(name))
+        return [record.lead(place).compared for place in (1, 2)]
+
+    def test_structures_compared(self):
+        there, back = 6, 5  # the places of the switches between the two tables
+        published = [2, 4, 3, 1, 7, 1, 7, 2, 1, 5, there, 2, 1, 4, 2, 1, back, 1, 2, 5, 3, 2]
+        by_table_2 = [there, 1, 1, 2, 1, 1, 3, 3, 3]
+        self.assertEqual((sum(published), sum(by_table_2)), (67, 21))
+        self.assertEqual(self.compared("own-tables"), [67, 21])
+        self.assertEqual(self.compared("two-leads"), [0, 0], "there is no Section 2")
+
+    def test_structures_compared_with_a_beat(self):
+        # in the default table 0 is at place 1, k at 2k, -k at 2k + 1, and other numbers of 8 bits at 18
+        beats = 1 + 8 + 4 * 18 + 11 + 1, 1 + 4 + 4 * 18 + 9 + 2
+        first_differences = 5 + 32 * 2 + 7 * 9, 5 + 20 * 2 + 5 * 9
+        second_differences = 5 + 3 + 24 + 7 * 11 + 7 * 10, 5 + 3 + 15 + 5 * 11 + 4 * 10
+        self.assertEqual((beats, first_differences, second_differences), ((93, 88), (132, 90), (179, 118)))
+        self.assertEqual(self.compared("beat"), [93 + 132, 88 + 90])
+        self.assertEqual(self.compared("padded"), [93 + 179, 88 + 118])
+
+    def test_the_most_structures_compared(self):
+        # one table: 62 structures of 8 bits, then 5 as 10, and at place 64 a switch to the same table as 0
+        codes = [bytes([8, 8, 1, k, 0, k << 2 | 3, 0, 0, 0]) for k in range(62)]
+        codes += [bytes([2, 2, 1, 5, 0, 1, 0, 0, 0]), bytes([1, 1, 0, 1, 0, 0, 0, 0, 0])]
+        given = {"step": 1, "interval": 1, "order": 0, "section2": bytes([1, 0, 64, 0]) + b"".join(codes)}
+        data = tigmavresh.write(Fields.FIELDS, [tigmavresh.NewLead(1, [5, 5, 5, 5])], **given)
+        self.assertEqual(tigmavresh.open(data).lead(1).compared, 4 * 63)
+        # the stream of one byte, 10101010, is made 00000010: six switches and one value
+        switched = changed(changed(data, 3, 6, b"\1"), 6, 8, b"\2")
+        lead = tigmavresh.open(switched).lead(1)
+        self.assertEqual((lead.samples.tolist(), lead.compared), ([5], 6 * 64 + 63))
+
+    def test_refusals_have_no_structures_compared(self):
+        room, work = (ctypes.c_int16 * 40)(), (ctypes.c_int16 * 8)()
+        for number in [7, 8, 9, 10, 12, 13, 14]:
+            data = sample(f"refused-{number}")
+            lead = scp.scp_read_lead(data, len(data), 2, room, len(room), work, len(work))
+            fields = {name: getattr(lead, name) for name, _ in lead._fields_}
+            self.assertEqual(fields, dict.fromkeys(fields, 0) | {"refusal": number})
 
     def test_an_entry(self):
         entry = tigmavresh.open(sample("limb-leads")).entry(4)

@@ -41,6 +41,7 @@ class ScpLead(ctypes.Structure):
         ("interval", c_uint16),
         ("first", c_uint32),
         ("count", c_uint32),
+        ("compared", c_uint32),
     ]
 
 

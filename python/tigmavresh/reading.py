@@ -84,6 +84,9 @@ class Lead:
     interval: The microseconds between two samples.
     flags: The flags of Section 3, for all leads; bit 0: a reference beat was subtracted.
     samples: An int16 array of numpy where that is installed, else an `array('h')`. `nanovolts` gives the voltages.
+    compared: How many code structures were compared: for each code that was read its structure's place in its table, from 1,
+        all of them added up. Switches count, and where a reference beat was subtracted its stream counts too, once. It is 0
+        in a record without Section 2, and at most 64 times the bits of the codes.
     """
 
     id: int
@@ -92,6 +95,7 @@ class Lead:
     interval: int
     flags: int
     samples: Samples
+    compared: int
 
     def nanovolts(self) -> Samples:
         """The voltages, exact: each sample times the step, in 32 bits, which hold every product.
@@ -177,7 +181,7 @@ class Record:
         work = (ctypes.c_int16 * (SCP_SAMPLES_MAX if entry.flags & _BEAT else 0))()
         lead = scp.scp_read_lead(self._data, len(self._data), place, room, len(room), work, len(work))
         check(lead.refusal)
-        return Lead(lead.id, lead.first, lead.step, lead.interval, lead.flags, _samples(room))
+        return Lead(lead.id, lead.first, lead.step, lead.interval, lead.flags, _samples(room), lead.compared)
 
 
 def _samples(room: ctypes.Array[ctypes.c_int16]) -> Samples:

@@ -34,14 +34,14 @@ static void lead_refused(uint8_t number, size_t place, size_t out_n, size_t work
     ScpLead lead = read_guarded(place, out_n, work_n);
     EXPECT(lead.refusal == number);
     EXPECT(lead.id == 0 && lead.flags == 0 && lead.step == 0 && lead.interval == 0);
-    EXPECT(lead.first == 0 && lead.count == 0);
+    EXPECT(lead.first == 0 && lead.count == 0 && lead.compared == 0);
     EXPECT(room_holds(out, zeros, 0));
     EXPECT(room_holds(work, zeros, cleared));
 }
 
-/* Reads a lead and holds it to these samples. */
+/* Reads a lead and holds it to these samples, and to how many structures are compared. */
 static void lead_is(size_t place, size_t out_n, size_t work_n, size_t cleared, uint8_t id, uint8_t flags, uint32_t first,
-                    const int16_t *numbers, uint32_t count) {
+                    const int16_t *numbers, uint32_t count, uint32_t compared) {
     ScpLead lead = read_guarded(place, out_n, work_n);
     EXPECT(lead.refusal == 0);
     EXPECT(lead.id == id);
@@ -50,6 +50,7 @@ static void lead_is(size_t place, size_t out_n, size_t work_n, size_t cleared, u
     EXPECT(lead.interval == 2000);
     EXPECT(lead.first == first);
     EXPECT(lead.count == count);
+    EXPECT(lead.compared == compared);
     EXPECT(room_holds(out, numbers, count));
     EXPECT(room_holds(work, zeros, cleared));
 }
@@ -71,12 +72,13 @@ static unsigned broken_row(void) {
     return 0;
 }
 
+/* Without Section 2: no structure is compared. */
 static void two_bytes_a_value(void) {
     static const int16_t one[] = {10, 12, 13, 15, 18, 22, 20, 15}, two[] = {-3, -3, -2, -1, 4, 0, -1, -1};
     load("two-leads.scp");
-    lead_is(1, 8, 0, 0, 1, 0, 1, one, 8);
-    lead_is(2, 8, 0, 0, 2, 0, 1, two, 8);
-    lead_is(2, LEAD_ROOM, LEAD_ROOM, 0, 2, 0, 1, two, 8); /* no beat: the work space is untouched */
+    lead_is(1, 8, 0, 0, 1, 0, 1, one, 8, 0);
+    lead_is(2, 8, 0, 0, 2, 0, 1, two, 8, 0);
+    lead_is(2, LEAD_ROOM, LEAD_ROOM, 0, 2, 0, 1, two, 8, 0); /* no beat: the work space is untouched */
     lead_refused(SCP_REFUSED_ROOM, 1, 7, 0, 0);
     lead_refused(SCP_REFUSED_ROOM, 1, 0, LEAD_ROOM, 0);
     lead_refused(SCP_REFUSED_ABSENT, 0, LEAD_ROOM, LEAD_ROOM, 0);
@@ -88,37 +90,64 @@ static void two_bytes_a_value(void) {
     EXPECT(broken_row() == 0);
 }
 
-/* The stream of EC71's own example, with both its switches. */
+/*
+ * The stream of EC71's own example, with both its switches; then one that switches once, and is read by table 2. The switches
+ * are at place 6 of table 1 and at place 5 of table 2.
+ */
 static void own_tables(void) {
     static const int16_t one[] = {1, 2, -1, 0, 3, 0, 4, 1, 0, -2, 0, 15, -1, 0, 13, 0, 1, -2, -1, 1};
     static const int16_t two[] = {15, 15, 0, -128, 127, 1, 1, 1};
+    enum {
+        BEFORE = 2 + 4 + 3 + 1 + 7 + 1 + 7 + 2 + 1 + 5,
+        IN_TABLE_2 = 2 + 1 + 4 + 2 + 1,
+        AFTER = 1 + 2 + 5 + 3 + 2,
+        ALL_IN_TABLE_2 = 1 + 1 + 2 + 1 + 1 + 3 + 3 + 3
+    };
+    EXPECT(BEFORE + 6 + IN_TABLE_2 + 5 + AFTER == 67);
     load("own-tables.scp");
-    lead_is(1, 20, 0, 0, 1, 0, 1, one, 20);
-    lead_is(2, 8, 0, 0, 2, 0, 7, two, 8);
+    lead_is(1, 20, 0, 0, 1, 0, 1, one, 20, 67);
+    lead_is(2, 8, 0, 0, 2, 0, 7, two, 8, 6 + ALL_IN_TABLE_2);
     entry_is(1, (ScpEntry){.id = 1, .step = 5000, .interval = 2000, .first = 1, .last = 20, .leads = 2, .bytes = 12});
 }
 
-/* A beat of eight samples, added to samples 3 to 10 and 26 to 32 of a lead that has 5 to 30. */
+/*
+ * The structures compared for the beats of beat.scp, 0 4 40 90 60 -20 -5 0 and 0 2 30 120 80 -10 -4 1. In the default table 0 is
+ * at place 1, k at 2k, -k at 2k + 1, and every other number of 8 bits at 18.
+ */
+enum { BEAT_1 = 1 + 8 + 4 * 18 + 11 + 1, BEAT_2 = 1 + 4 + 4 * 18 + 9 + 2 };
+
+/*
+ * A beat of eight samples, added to samples 3 to 10 and 26 to 32 of a lead that has 5 to 30. Its stream counts once; the
+ * residual's first differences are -2, then 1 four times and -4, over and over.
+ */
 static void subtracted_beat(void) {
     static const int16_t two[] = {28, 119, 80, -9, -2, -1, -1, 0, 1, 2, -2, -1, 0, 1, 2, -2, -1, 0, 1, 2, -2, 1, 30, 121, 82, -12};
+    enum { COMPARED = BEAT_2 + 5 + 20 * 2 + 5 * 9 };
+    EXPECT(COMPARED == 178);
     load("beat.scp");
-    lead_is(2, 26, 8, 8, 2, 5, 5, two, 26);
-    lead_is(2, LEAD_ROOM, LEAD_ROOM, LEAD_ROOM, 2, 5, 5, two, 26); /* all of the work space is zeros */
+    lead_is(2, 26, 8, 8, 2, 5, 5, two, 26, COMPARED);
+    lead_is(2, LEAD_ROOM, LEAD_ROOM, LEAD_ROOM, 2, 5, 5, two, 26, COMPARED); /* all of the work space is zeros */
     lead_refused(SCP_REFUSED_ROOM, 2, 26, 7, 0);
     lead_refused(SCP_REFUSED_ROOM, 2, 25, 8, 0);
     lead_refused(SCP_REFUSED_ROOM, 2, 26, 0, 0);
 }
 
-/* Streams padded to an even number of bytes, in Sections 5 and 6: each lead is read to what it is in beat.scp. */
+/*
+ * Streams padded to an even number of bytes, in Sections 5 and 6: each lead is read to what it is in beat.scp. Padding is not
+ * compared; the residual's second differences are -2 -1, then 0 three times, -5 and 5, over and over.
+ */
 static void padded_streams(void) {
+    static const uint32_t compared[] = {BEAT_1 + 5 + 3 + 24 + 7 * 11 + 7 * 10, BEAT_2 + 5 + 3 + 15 + 5 * 11 + 4 * 10};
+    EXPECT(compared[0] == 272 && compared[1] == 206);
     for (size_t place = 1; place <= 2; place++) {
         int16_t numbers[LEAD_ROOM];
         load("beat.scp");
         ScpLead lead = read_guarded(place, LEAD_ROOM, LEAD_ROOM);
         EXPECT(lead.refusal == 0 && lead.count == (place == 1 ? 40 : 26));
+        EXPECT(lead.compared == (place == 1 ? 225 : 178));
         memcpy(numbers, out + GUARDS, sizeof numbers);
         load("padded.scp");
-        lead_is(place, lead.count, 8, 8, lead.id, lead.flags, lead.first, numbers, lead.count);
+        lead_is(place, lead.count, 8, 8, lead.id, lead.flags, lead.first, numbers, lead.count, compared[place - 1]);
         EXPECT(scp_lead(file, file_size, place).bytes % 2 == 0);
     }
     EXPECT(broken_row() == 0);
@@ -142,7 +171,10 @@ static void refused_leads(void) {
         lead_refused(number, 2, LEAD_ROOM, LEAD_ROOM, asked[k].cleared);
         EXPECT(broken_row() == (number <= SCP_REFUSED_BIMODAL_STEP_INTERVAL ? number : 0));
         EXPECT(scp_lead(file, file_size, 2).refusal == (number <= SCP_REFUSED_ABSENT ? number : 0));
-        if (number > SCP_REFUSED_ABSENT) EXPECT(read_guarded(1, LEAD_ROOM, LEAD_ROOM).refusal == 0);
+        if (number > SCP_REFUSED_ABSENT) {
+            ScpLead other = read_guarded(1, LEAD_ROOM, LEAD_ROOM);
+            EXPECT(other.refusal == 0 && other.compared > 0);
+        }
     }
     for (char number = '1'; number <= '6'; number++) {
         char name[] = "refused-N.scp";
@@ -155,6 +187,7 @@ static void refused_leads(void) {
 }
 
 void check_leads(void) {
+    EXPECT(sizeof(ScpLead) == 20 && offsetof(ScpLead, compared) == 16);
     two_bytes_a_value();
     own_tables();
     subtracted_beat();

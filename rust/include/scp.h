@@ -97,6 +97,7 @@ typedef struct {
     uint8_t refusal, id, flags; /* the flags are Section 3's, for all leads; bit 0: a reference beat was subtracted */
     uint16_t step, interval;    /* the step of a sample in nanovolts, the interval between two in microseconds */
     uint32_t first, count;      /* the number of the first sample, and how many there are */
+    uint32_t compared;          /* how many code structures were compared, summed over its codes (scp_read_lead) */
 } ScpLead;
 
 /* A record's description of a lead, its stream unread. */
@@ -172,6 +173,12 @@ ScpStep scp_walk_step(const uint8_t *section, size_t n, size_t at);
  * Refusals: the smallest of 1 to 11 that applies; then the beat's stream is read, then the lead's, then the sums are
  * made, and the first fault met decides, 12 to 14. All leads' entries are judged whatever place is asked for; another
  * lead's stream is not met.
+ *
+ * `compared` is how many code structures were compared: for every code that was read, the place of its structure in its table,
+ * from 1, and all of these added up. Switches count like other codes, and where a beat was subtracted its stream counts too,
+ * once. In the default table 0 is first, then 1, -1 up to 8, -8, then the remainders of 8 and of 16 bits. Bits left over do
+ * not count. It is 0 with a refusal, and in a record without Section 2. It is at most 64 times the bits of the codes, and so
+ * at most 64 * 524,280 = 33,553,920 for each stream; there are one or two.
  */
 ScpLead scp_read_lead(const uint8_t *record, size_t n, size_t place, int16_t *out, size_t out_n, int16_t *work,
                       size_t work_n);

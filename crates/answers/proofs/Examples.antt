@@ -27,7 +27,7 @@ use Rattle.encode.specs.Encoding.{tablesGiven, tablesGivenRight, foundRefusal, 
 use Rattle.trip.proofs.Compose.{given-right}
 use Rattle.fields.specs.Identifier.{same}
 use Rattle.answers.proofs.Fewest.{asked}
-use Rattle.answers.specs.Examples.{twoTables, namedDefault, valuesP3, valuesP5, bitsP5, bitsP7, samplesP9, samplesP1, field007, field7, id007, id7, Examples}
+use Rattle.answers.specs.Examples.{twoTables, namedDefault, valuesP3, valuesP5, bytesP3, bytesP5, bitsP5, bitsP7, samplesP9, samplesP1, field007, field7, id007, id7, Examples}
 
 -- P9's third value has more than 16 bits
 refused-15 : {s2 work out : List ℕ} {a : Coded} {w o : List ℕ} → tablesGivenRight s2 ≡ true → 3 * length (tablesGiven s2) ≤ length work
@@ -40,12 +40,12 @@ refused-15 {s2 = s2} right room (answered (some bs) e F) =
     absurd (outside-none (tablesGiven s2) (given-right s2 right) (differences 2 samplesP9) 2 (omega arith) (omega arith) bs (F .stream))
 
 pub examples : Examples
-unfolding valuesP5 samplesP9 allIn each areBits readsIt twos holds equal serves kindOf wordOf samplesP1 differences storedFrom storedOf samplesInBeat twoTables namedDefault valuesP3 bitsP5 bitsP7 field007 field7 id007 id7 same stepAt isField fieldAt tablesIn isDefault tablesFrom tableAt afterTable afterTables tableRight section2Right endsBy structuresAt structureAt numberAt every structureRight modeRight prefixFree apart begins lowFirst highFirst bitsIn numberAfter signed defaultTable valued codeOf ones twoValues readNext readCoded readWithin afterMatch valueOf matching tableOf
+unfolding valuesP5 samplesP9 allIn each areBits readsIt twos holds equal serves kindOf wordOf samplesP1 differences storedFrom storedOf samplesInBeat twoTables namedDefault valuesP3 bytesP3 bytesP5 bitsP5 bitsP7 field007 field7 id007 id7 same stepAt isField fieldAt tablesIn isDefault tablesFrom tableAt afterTable afterTables tableRight section2Right endsBy structuresAt structureAt numberAt every structureRight modeRight prefixFree apart begins lowFirst highFirst bitsIn numberAfter signed defaultTable valued codeOf ones twoValues readNext readCoded readWithin afterMatch valueOf matching tableOf
 examples = record {
   p1 = refl;
   p2 = refl;
   p3 =
-      shortest-by (tablesIn namedDefault 0) valuesP3 (take 71 (bitsIn (255 ∷ 131 ∷ 191 ∷ 225 ∷ 39 ∷ 191 ∷ 247 ∷ 189 ∷ 248 ∷ [])))
+      shortest-by (tablesIn namedDefault 0) valuesP3 (take 71 (bitsIn bytesP3))
       (17 ∷ 17 ∷ 0 ∷ 8 ∷ 17 ∷ 2 ∷ 9 ∷ []) (omega arith) refl;
   p4 = refl;
   p5-tables = refl;

@@ -6,6 +6,7 @@ pub mod Cases
 pub mod Fewest
 pub mod Acceptance
 pub mod Padding
+pub mod Comparisons
 pub mod AuditorsIndex
 pub mod MergedIndexes
 pub mod Written

@@ -46,6 +46,7 @@ use Rattle.rules.specs.Rows.{rowKept}
 use Rattle.leads.specs.declared.Lead.{Lead}
 use Rattle.leads.specs.declared.Entry.{Entry}
 use Rattle.leads.specs.LeadTrace.{tablesOf, sampleCountAt, traceAt, roomRight, readTrace}
+use Rattle.leads.specs.LeadCompared.{comparedAt}
 use Rattle.leads.specs.LeadAnswers.{leadAnswer, outAfter, workAfter, entryOf, entryAnswer}
 use Rattle.packing.specs.Packing.{bytesFor, packed}
 use Rattle.paths.specs.Before.{Before}
@@ -129,7 +130,7 @@ Later n = (n ≡ 0) ⊎ (n ≡ 11) ⊎ (n ≡ 15) ⊎ (n ≡ 16)
 -- ---- answers that hold a refusal and nothing else
 
 abbrev pub refusedLead : ℕ → Lead
-refusedLead n = record { refusal = n; id = 0; flags = 0; step = 0; interval = 0; first = 0; count = 0 }
+refusedLead n = record { refusal = n; id = 0; flags = 0; step = 0; interval = 0; first = 0; count = 0; compared = 0 }
 
 abbrev pub refusedEntry : ℕ → Entry
 refusedEntry n = record { refusal = n; id = 0; flags = 0; order = 0; step = 0; interval = 0; first = 0; last = 0; leads = 0; bytes = 0 }
@@ -240,7 +241,8 @@ pub record Demand2 : Type 0 where
   pub identifiers : (a b : List ℕ) → (same a b ≡ true) ↔ (a ≡ b)
   -- a lead of a record that keeps rows 1 to 10 is shown with what Sections 3 and 6 say of it
   pub entered : (r : List ℕ) (place : ℕ) → AllKept (rowsLead r place) → entryAnswer r place ≡ entryOf r (place - 1) 0
-  -- one that keeps row 11 too and whose streams are rebuilt is read to exactly its samples, as many as Section 3 says
+  -- one that keeps row 11 too and whose streams are rebuilt is read to exactly its samples, as many as Section 3 says; beside them the
+  -- answer has how many structures were compared (Q-6)
   pub read : (r : List ℕ) (place room work : ℕ) (xs out : List ℤ) → AllKept (rowsRead r place room work)
       → traceAt r (place - 1) ≡ rebuilt xs
       → (leadAnswer r place room work ≡ record {
@@ -251,6 +253,7 @@ pub record Demand2 : Type 0 where
         interval = intervalOf (sectionOf r 6);
         first = firstSample (sectionOf r 3) (place - 1);
         count = length xs;
+        compared = comparedAt r (place - 1);
       }) × (outAfter (readTrace r place room work) out ≡ xs ++ drop (length xs) out) × (length xs ≡ sampleCountAt r (place - 1))
   -- rebuilding undoes the differences: bits are rebuilt to samples of 16 bits exactly if reading value after value takes them to the
   -- differences of the samples, with up to 15 bits behind (Q-1); by a record's own tables, and by those that the writer is given

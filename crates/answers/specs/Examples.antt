@@ -54,9 +54,16 @@ valuesP5 =
     pos 1 ∷ pos 2 ∷ negsuc 0 ∷ pos 0 ∷ pos 3 ∷ pos 0 ∷ pos 4 ∷ pos 1 ∷ pos 0 ∷ negsuc 1 ∷
     pos 0 ∷ pos 15 ∷ negsuc 0 ∷ pos 0 ∷ pos 13 ∷ pos 0 ∷ pos 1 ∷ negsuc 1 ∷ negsuc 0 ∷ pos 1 ∷ []
 
--- the stream of P5: all but the last 4 bits of 99 5E 06 F0 48 DE 80 FD 01 BD 36 C0
+-- the bytes of P3's stream: FF 83 BF E1 27 BF F7 BD F8
+unfoldable pub bytesP3 : List ℕ
+bytesP3 = 255 ∷ 131 ∷ 191 ∷ 225 ∷ 39 ∷ 191 ∷ 247 ∷ 189 ∷ 248 ∷ []
+
+-- the bytes of P5's: 99 5E 06 F0 48 DE 80 FD 01 BD 36 C0; the stream is all but the last 4 of their bits
+unfoldable pub bytesP5 : List ℕ
+bytesP5 = 153 ∷ 94 ∷ 6 ∷ 240 ∷ 72 ∷ 222 ∷ 128 ∷ 253 ∷ 1 ∷ 189 ∷ 54 ∷ 192 ∷ []
+
 unfoldable pub bitsP5 : List ℕ
-bitsP5 = take 92 (bitsIn (153 ∷ 94 ∷ 6 ∷ 240 ∷ 72 ∷ 222 ∷ 128 ∷ 253 ∷ 1 ∷ 189 ∷ 54 ∷ 192 ∷ []))
+bitsP5 = take 92 (bitsIn bytesP5)
 
 -- the stream of P7 for 15 15: all but the last 2 bits of E0 78 3C
 unfoldable pub bitsP7 : List ℕ
@@ -88,7 +95,7 @@ pub record Examples : Type 0 where
   pub p1 : differences 1 samplesP1 ≡ pos 10 ∷ pos 2 ∷ pos 1 ∷ pos 2 ∷ pos 3 ∷ pos 4 ∷ negsuc 1 ∷ negsuc 4 ∷ []
   pub p2 : differences 2 samplesP1 ≡ pos 10 ∷ pos 12 ∷ negsuc 0 ∷ pos 1 ∷ pos 1 ∷ pos 1 ∷ negsuc 5 ∷ negsuc 2 ∷ []
   -- P3: the shortest stream has 71 bits. These are the bytes FF 83 BF E1 27 BF F7 BD, and 7 bits of a ninth
-  pub p3 : Shortest (tablesIn namedDefault 0) valuesP3 (take 71 (bitsIn (255 ∷ 131 ∷ 191 ∷ 225 ∷ 39 ∷ 191 ∷ 247 ∷ 189 ∷ 248 ∷ [])))
+  pub p3 : Shortest (tablesIn namedDefault 0) valuesP3 (take 71 (bitsIn bytesP3))
   -- P4: a stored code, its lowest bit first
   pub p4 : lowFirst 4 11 ≡ 1 ∷ 1 ∷ 0 ∷ 1 ∷ []
   -- P5: the two tables keep their rule, and 92 bits are read to the values. The 11th value, from bit 44 on, switches to table 2, and the

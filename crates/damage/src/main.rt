@@ -101,7 +101,9 @@ fn put_lead(lead: Lead) {
     put_number(lead.interval as usize);
     put(b", from ");
     put_number(lead.first as usize);
-    put(b":");
+    put(b", ");
+    put_number(lead.compared as usize);
+    put(b" compared:");
 }
 
 fn show_lead(rec: &[u8], place: usize, out: &mut [i16], work: &mut [i16]) {

@@ -24,6 +24,7 @@ use Rattle.traces.proofs.Laws.{rebuilt-length}
 use Rattle.beats.specs.Sums.{addBeat}
 use Rattle.beats.proofs.Laws.{added-length}
 use Rattle.leads.specs.LeadTrace.{tablesOf, sampleCountAt, streamTrace, residual, traceAt, roomRight, readRefusal, readTrace}
+use Rattle.leads.specs.LeadCompared.{streamCompared, overStreams, comparedAt}
 use Rattle.leads.specs.InnerLead.{Readable, clearedIf}
 use Rattle.leads.specs.LeadAnswers.{outAfter, workAfter, entryAnswer}
 
@@ -62,6 +63,16 @@ traced n xs t z e = ap (λ (m : ℕ). traceOf m xs) (sym z) ∙ e
 pub without-beat : (r : List ℕ) (k : ℕ) → beatSubtracted r ≡ false → residual r k ≡ traceAt r k
 unfolding traceAt
 without-beat r k e = rw e
+
+-- and so are the structures compared; where one was, the beat's come before the lead's own
+pub compared-own : (r : List ℕ) (k : ℕ) → beatSubtracted r ≡ false → comparedAt r k ≡ streamCompared r 6 (sampleCountAt r k) k
+unfolding comparedAt overStreams
+compared-own r k e = rw e (omega arith)
+
+pub compared-both : (r : List ℕ) (k : ℕ) → beatSubtracted r ≡ true
+    → comparedAt r k ≡ streamCompared r 5 (beatSampleCount r) k + streamCompared r 6 (sampleCountAt r k) k
+unfolding comparedAt overStreams
+compared-both r k e = rw e
 
 -- a lead from which a beat was subtracted
 module _ (r : List ℕ) (k : ℕ) (here : beatSubtracted r ≡ true) (beat : List ℤ) (n : ℕ)

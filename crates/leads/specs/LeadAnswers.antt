@@ -1,4 +1,4 @@
--- The answer of reading a lead, and the contents of the lent room afterwards (01, Refusal numbers, the paragraphs under the table);
+-- The answer of reading a lead, and the contents of the lent room afterwards (01, Refusal numbers, the paragraphs under the table; Q-6);
 -- and the answer of asking for a lead's entry. That call is ours: 01 has no such call, and the rows that refuse it are 01's, 1 to 10.
 use Prim.Native.Nat.{ℕ, zero, suc, _-_}
 use mathlib.Core.Bool.{_&&_, cond}
@@ -12,11 +12,12 @@ use Rattle.entries.specs.Sections5And6.{stepOf, intervalOf, orderOf, byteCountO
 use Rattle.rules.specs.LeadRules.{leadCountOf, beatSubtracted, leadRefusal}
 use Rattle.samples.specs.Trace.{Trace, rebuilt, fault}
 use Rattle.leads.specs.LeadTrace.{readRefusal, readTrace}
+use Rattle.leads.specs.LeadCompared.{comparedAt}
 use Rattle.leads.specs.declared.Lead.{Lead}
 use Rattle.leads.specs.declared.Entry.{Entry}
 
--- the count, the first sample's number, the ID, the flags as stored, and Section 6's step and interval; a
--- refusal is its number and nothing else
+-- the count, the first sample's number, the ID, the flags as stored, Section 6's step and interval, and how many structures were
+-- compared (Q-6); a refusal is its number and nothing else
 abbrev pub leadOf : List ℕ → ℕ → Trace → Lead
 leadOf r k (rebuilt xs) = record {
   refusal = 0;
@@ -26,8 +27,9 @@ leadOf r k (rebuilt xs) = record {
   interval = intervalOf (sectionOf r 6);
   first = firstSample (sectionOf r 3) k;
   count = length xs;
+  compared = comparedAt r k;
 }
-leadOf r k (fault number) = record { refusal = number; id = 0; flags = 0; step = 0; interval = 0; first = 0; count = 0 }
+leadOf r k (fault number) = record { refusal = number; id = 0; flags = 0; step = 0; interval = 0; first = 0; count = 0; compared = 0 }
 
 -- reading the lead at a place, where this much room and work space are lent
 abbrev pub leadAnswer : List ℕ → ℕ → ℕ → ℕ → Lead

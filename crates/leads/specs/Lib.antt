@@ -1,3 +1,4 @@
 pub mod LeadTrace
+pub mod LeadCompared
 pub mod LeadAnswers
 pub mod InnerLead

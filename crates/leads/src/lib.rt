@@ -1,9 +1,10 @@
 // Reading a lead, every sample exact (01, Leads and samples; refusals 1 to 14). The beat's stream is read into the work space, the
-// lead's into room of its own, and the output is written when all is right: a refusal changes nothing but the work space.
+// lead's into room of its own, and the output is written when all is right: a refusal changes nothing but the work space. The answer
+// has the sum of the structures compared (Q-6).
 ghost use mathlib.Core.Path.{_≡_};
 ghost use mathlib.Core.Bool.{true, false};
 ghost use mathlib.Core.List.{List, _++_};
-ghost use Prim.Native.Nat.{ℕ, _+_, _-_, _<_, _≤_};
+ghost use Prim.Native.Nat.{ℕ, _+_, _-_, _*_, _<_, _≤_};
 ghost use lib.IntN.{ℤ, pos};
 ghost use lib.ListN.{length, take, drop, replicate};
 ghost use Rattle.rules.specs.LeadRules.{tablesRight, leadCountOf, beatSubtracted, beatSampleCount, leadRefusal};
@@ -11,8 +12,10 @@ ghost use Rattle.compiled.specs.InnerForm.{roomNumbers, CompiledOrNone};
 ghost use Rattle.samples.specs.Trace.{rebuilt, fault};
 ghost use Rattle.samples.specs.InnerTrace.{traceOf};
 ghost use Rattle.leads.specs.LeadTrace.{tablesOf, sampleCountAt, streamTrace, traceAt, roomRight, readRefusal, readTrace};
-ghost use Rattle.leads.specs.InnerLead.{Readable, clearedIf};
+ghost use Rattle.leads.specs.LeadCompared.{streamCompared, comparedAt};
+ghost use Rattle.leads.specs.InnerLead.{Readable, clearedIf, mostSum, Summed};
 ghost use Rattle.leads.specs.LeadAnswers.{leadOf, leadAnswer, outAfter, workAfter, entryOf, entryAnswer};
+use traces::Rebuilt;
 
 // The answer of reading a lead, beside its samples: 0 or a refusal number, and on a refusal nothing else.
 #[repr(C)]
@@ -24,6 +27,7 @@ pub struct Lead {
     pub interval: u16,
     pub first: u32,
     pub count: u32,
+    pub compared: u32,
 }
 
 // The facts that Sections 3 and 6 give of a lead; on a refusal its number alone.
@@ -92,11 +96,12 @@ fn hold_tables(rec: &[u8], tab: &mut [u32]) -> usize
     compiled::ROOM
 }
 
-// Lead k's stream in Section 5 or 6 is rebuilt into the room: 0, or the number of the fault met.
-fn stream_into(rec: &[u8], section: usize, k: usize, tab: &[u32], room: &mut [i16]) -> u8
+// Lead k's stream in Section 5 or 6 is rebuilt into the room.
+fn stream_into(rec: &[u8], section: usize, k: usize, tab: &[u32], room: &mut [i16]) -> Rebuilt
     requires { ⌜ CompiledOrNone (tablesOf (now rec)) (now tab) × (section < 64) × (k < leadCountOf (now rec)) ⌝ }
-    ensures { λ r. ⌜ (traceOf r (now (room .exit)) ≡ streamTrace (now (rec .entry)) section (length (now (room .entry))) k)
+    ensures { λ r. ⌜ (traceOf (r .fault) (now (room .exit)) ≡ streamTrace (now (rec .entry)) section (length (now (room .entry))) k)
         × (length (now (room .exit)) ≡ length (now (room .entry))) ⌝ }
+    ensures summed { λ r. ⌜ Summed (streamCompared (now (rec .entry)) section (length (now (room .entry))) k) mostSum r ⌝ }
 {
     let s = pointers::section_of(rec, section);
     let stream = entries::stream_of(s, rules::leads_of(rec), k);
@@ -104,41 +109,49 @@ fn stream_into(rec: &[u8], section: usize, k: usize, tab: &[u32], room: &mut [i1
 }
 
 // The beat is rebuilt, then the residual in the room, and the beat is added to it.
-fn with_beat(rec: &[u8], k: usize, tab: &[u32], room: &mut [i16], beat: &mut [i16]) -> u8
+fn with_beat(rec: &[u8], k: usize, tab: &[u32], room: &mut [i16], beat: &mut [i16]) -> Rebuilt
     requires { ⌜ CompiledOrNone (tablesOf (now rec)) (now tab) ⌝ }
     requires { ⌜ Readable (now rec) k (length (now beat)) ⌝ }
     requires { ⌜ (length (now room) ≡ sampleCountAt (now rec) k) × (length (now beat) ≡ beatSampleCount (now rec))
         × (beatSubtracted (now rec) ≡ true) ⌝ }
-    ensures { λ r. ⌜ (traceOf r (now (room .exit)) ≡ traceAt (now (rec .entry)) k) × (length (now (room .exit)) ≡ length (now (room .entry))) ⌝ }
+    ensures { λ r. ⌜ (traceOf (r .fault) (now (room .exit)) ≡ traceAt (now (rec .entry)) k) × (length (now (room .exit)) ≡ length (now (room .entry))) ⌝ }
+    ensures summed { λ r. ⌜ Summed (comparedAt (now (rec .entry)) k) (2 * mostSum) r ⌝ }
 {
     let first = entries::first_sample(pointers::section_of(rec, 3), k);
-    let fault = stream_into(rec, 5, k, tab, beat);
-    if fault != 0 {
-        return fault;
+    let of_beat = stream_into(rec, 5, k, tab, beat);
+    if of_beat.fault != 0 {
+        return of_beat;
     }
-    let fault = stream_into(rec, 6, k, tab, room);
-    if fault != 0 {
-        return fault;
+    let own = stream_into(rec, 6, k, tab, room);
+    if own.fault != 0 {
+        return own;
     }
-    beats::add_beat(pointers::section_of(rec, 4), beat, first, room)
+    let fault = beats::add_beat(pointers::section_of(rec, 4), beat, first, room);
+    let beat_sum = of_beat.compared;
+    let own_sum = own.compared;
+    Rebuilt {
+        fault,
+        compared: beat_sum + own_sum,
+    }
 }
 
 // Lead k is rebuilt in the room. Where a beat was subtracted it is rebuilt in the work space, all of which is then cleared.
-fn lead_into(rec: &[u8], k: usize, tab: &[u32], room: &mut [i16], work: &mut [i16]) -> u8
+fn lead_into(rec: &[u8], k: usize, tab: &[u32], room: &mut [i16], work: &mut [i16]) -> Rebuilt
     requires { ⌜ CompiledOrNone (tablesOf (now rec)) (now tab) ⌝ }
     requires { ⌜ Readable (now rec) k (length (now work)) ⌝ }
     requires { ⌜ length (now room) ≡ sampleCountAt (now rec) k ⌝ }
-    ensures { λ r. ⌜ (traceOf r (now (room .exit)) ≡ traceAt (now (rec .entry)) k)
+    ensures { λ r. ⌜ (traceOf (r .fault) (now (room .exit)) ≡ traceAt (now (rec .entry)) k)
         × (length (now (room .exit)) ≡ length (now (room .entry)))
         × (now (work .exit) ≡ clearedIf (beatSubtracted (now (rec .entry))) (now (work .entry))) ⌝ }
+    ensures summed { λ r. ⌜ Summed (comparedAt (now (rec .entry)) k) (2 * mostSum) r ⌝ }
 {
     if !rules::has_beat(rec) {
         return stream_into(rec, 6, k, tab, room);
     }
     let n = rules::beat_sample_count(rec);
-    let fault = with_beat(rec, k, tab, room, &mut work[..n]);
+    let rebuilt = with_beat(rec, k, tab, room, &mut work[..n]);
     clear(work);
-    fault
+    rebuilt
 }
 
 // Lead k is rebuilt in the room, and copied to the output if nothing was refused.
@@ -149,20 +162,21 @@ fn lead_out(
     room: &mut [i16],
     out: &mut [i16],
     work: &mut [i16],
-) -> u8
+) -> Rebuilt
     requires { ⌜ CompiledOrNone (tablesOf (now rec)) (now tab) ⌝ }
     requires { ⌜ Readable (now rec) k (length (now work)) ⌝ }
     requires { ⌜ (length (now room) ≡ sampleCountAt (now rec) k) × (sampleCountAt (now rec) k ≤ length (now out)) ⌝ }
-    ensures { λ r. ⌜ ((xs : List ℤ) × (traceOf r xs ≡ traceAt (now (rec .entry)) k))
+    ensures { λ r. ⌜ ((xs : List ℤ) × (traceOf (r .fault) xs ≡ traceAt (now (rec .entry)) k))
         × (now (out .exit) ≡ outAfter (traceAt (now (rec .entry)) k) (now (out .entry)))
         × (now (work .exit) ≡ clearedIf (beatSubtracted (now (rec .entry))) (now (work .entry))) ⌝ }
+    ensures summed { λ r. ⌜ Summed (comparedAt (now (rec .entry)) k) (2 * mostSum) r ⌝ }
 {
-    let fault = lead_into(rec, k, tab, room, work);
-    if fault != 0 {
-        return fault;
+    let rebuilt = lead_into(rec, k, tab, room, work);
+    if rebuilt.fault != 0 {
+        return rebuilt;
     }
     copy(room, out);
-    0
+    rebuilt
 }
 
 // Lead k is rebuilt in the front of the room, and copied to the output if nothing was refused.
@@ -173,25 +187,27 @@ fn read_in(
     room: &mut [i16],
     out: &mut [i16],
     work: &mut [i16],
-) -> u8
+) -> Rebuilt
     requires { ⌜ CompiledOrNone (tablesOf (now rec)) (now tab) ⌝ }
     requires { ⌜ Readable (now rec) k (length (now work)) ⌝ }
     requires { ⌜ (sampleCountAt (now rec) k ≤ length (now room)) × (sampleCountAt (now rec) k ≤ length (now out)) ⌝ }
-    ensures { λ r. ⌜ ((xs : List ℤ) × (traceOf r xs ≡ traceAt (now (rec .entry)) k))
+    ensures { λ r. ⌜ ((xs : List ℤ) × (traceOf (r .fault) xs ≡ traceAt (now (rec .entry)) k))
         × (now (out .exit) ≡ outAfter (traceAt (now (rec .entry)) k) (now (out .entry)))
         × (now (work .exit) ≡ clearedIf (beatSubtracted (now (rec .entry))) (now (work .entry))) ⌝ }
+    ensures summed { λ r. ⌜ Summed (comparedAt (now (rec .entry)) k) (2 * mostSum) r ⌝ }
 {
     let n = entries::sample_count(pointers::section_of(rec, 3), k);
     lead_out(rec, k, tab, &mut room[..n], out, work)
 }
 
 // Lead k is read by the record's tables, in room of its own: small if it is short, since all of the room is cleared first.
-fn read_into(rec: &[u8], k: usize, out: &mut [i16], work: &mut [i16]) -> u8
+fn read_into(rec: &[u8], k: usize, out: &mut [i16], work: &mut [i16]) -> Rebuilt
     requires { ⌜ Readable (now rec) k (length (now work)) ⌝ }
     requires { ⌜ sampleCountAt (now rec) k ≤ length (now out) ⌝ }
-    ensures { λ r. ⌜ ((xs : List ℤ) × (traceOf r xs ≡ traceAt (now (rec .entry)) k))
+    ensures { λ r. ⌜ ((xs : List ℤ) × (traceOf (r .fault) xs ≡ traceAt (now (rec .entry)) k))
         × (now (out .exit) ≡ outAfter (traceAt (now (rec .entry)) k) (now (out .entry)))
         × (now (work .exit) ≡ clearedIf (beatSubtracted (now (rec .entry))) (now (work .entry))) ⌝ }
+    ensures summed { λ r. ⌜ Summed (comparedAt (now (rec .entry)) k) (2 * mostSum) r ⌝ }
 {
     let mut tab = table_room();
     let held = hold_tables(rec, &mut tab);
@@ -246,12 +262,13 @@ fn refused(refusal: u8) -> Lead
         interval: 0,
         first: 0,
         count: 0,
+        compared: 0,
     }
 }
 
-// The answer that goes with lead k's samples.
-fn lead_at(rec: &[u8], k: usize) -> Lead
-    requires { ⌜ (k < 256) × (sampleCountAt (now rec) k ≤ 65536) ⌝ }
+// The answer that goes with lead k's samples, where so many structures were compared.
+fn lead_at(rec: &[u8], k: usize, compared: usize) -> Lead
+    requires { ⌜ (k < 256) × (sampleCountAt (now rec) k ≤ 65536) × (compared ≡ comparedAt (now rec) k) × (compared ≤ 2 * mostSum) ⌝ }
     ensures { λ r. ⌜ ((xs : List ℤ) → length xs ≡ sampleCountAt (now (rec .entry)) k → r ≡ leadOf (now (rec .entry)) k (rebuilt xs)) ⌝ }
 {
     let s = pointers::section_of(rec, 3);
@@ -264,6 +281,7 @@ fn lead_at(rec: &[u8], k: usize) -> Lead
         interval: entries::interval_of(t) as u16,
         first: entries::first_sample(s, k) as u32,
         count: entries::sample_count(s, k) as u32,
+        compared: compared as u32,
     }
 }
 
@@ -299,11 +317,11 @@ pub fn read_lead(rec: &[u8], place: usize, out: &mut [i16], work: &mut [i16]) ->
     if refusal != 0 {
         return refused(refusal);
     }
-    let fault = read_into(rec, place - 1, out, work);
-    if fault != 0 {
-        return refused(fault);
+    let rebuilt = read_into(rec, place - 1, out, work);
+    if rebuilt.fault != 0 {
+        return refused(rebuilt.fault);
     }
-    lead_at(rec, place - 1)
+    lead_at(rec, place - 1, rebuilt.compared)
 }
 
 // The entry of the lead at a place, from 1: judged as reading it is, no stream read.

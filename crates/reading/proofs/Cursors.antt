@@ -1,20 +1,21 @@
 -- A cursor's steps: values held with 131,072 added, the search for a structure's form, and what a form that was found says. Assumes
 -- nothing.
 use Prim.Native.Nat.{ℕ, zero, suc, _+_, _-_, _*_, _/_, _%_, _^_, _≤_, _<_}
-use mathlib.Core.Path.{_≡_, refl, sym, ap, _∙_}
+use mathlib.Core.Path.{_≡_, refl, sym, ap, subst, _∙_}
 use mathlib.Core.Bool.{true, false}
-use mathlib.Core.List.{List, [], _∷_}
-use mathlib.Core.Logic.{_⊎_, inl, inr}
+use mathlib.Core.List.{List, []}
+use mathlib.Core.Logic.{inl, inr}
 use mathlib.Core.Option.{Option, none, some}
 use native.Mathlib.Nat.{mod-lt, pow-suc}
 use native.Mathlib.Decide.{decLt}
 use native.Mathlib.Omega.{arith}
 use borrow.Author.Tests.{lt-ltb, le-ltb, ne-eqb}
 use lib.IntN.{negsuc}
-use lib.ListN.{length, getD, drop, length-drop, drop-of-length-le, List·getD-eq-default}
+use lib.ListN.{length, getD, drop, length-drop, drop-of-length-le}
 use lib.Pow.{pow-pos, pow-mono, shr-lt}
 use lib.Seq.{drop-cons, drop-drop}
 use Rattle.wire.proofs.Laws.{unlike}
+use Rattle.wire.specs.Bounds.{mostStructures}
 use Rattle.wire.specs.RuleWords.{every}
 use Rattle.bits.specs.Bits.{signed, begins, bitsIn}
 use Rattle.bits.specs.InnerRaised.{fromZero}
@@ -26,14 +27,17 @@ use Rattle.tables.specs.Section2.{tableOf, tableRight}
 use Rattle.tables.proofs.Laws.{fine}
 use Rattle.compiled.specs.declared.Form.{Form}
 use Rattle.compiled.specs.InnerForm.{lowest, formOf, Compiled, CompiledOrNone}
-use Rattle.compiled.proofs.Laws.{FineForm, form-fine, held-right}
-use Rattle.reading.specs.Reading.{stuck, matching, valueOf, readWithin, readCoded, readPlain, readNext}
-use Rattle.reading.specs.InnerCursor.{Seen, formed, Onward, OnwardOf}
+use Rattle.compiled.proofs.Laws.{FineForm, form-fine, held-right, held-count}
+use Rattle.reading.specs.Reading.{matching, valueOf, readCoded, readPlain, readNext}
+use Rattle.reading.specs.Compared.{comparedIn, comparedCoded, comparedNext}
+use Rattle.reading.specs.InnerCursor.{Seen, foundIn, formed, Placed, Onward, OnwardOf}
+use Rattle.reading.specs.declared.Found.{Found}
+use Rattle.reading.specs.declared.Found.the-variants.{At}
 use Rattle.reading.specs.declared.Read.{Read}
 use Rattle.reading.specs.declared.Read.the-variants.{Value, Stuck}
 use Rattle.reading.specs.declared.Burst.{Burst}
 use Rattle.reading.specs.declared.Burst.the-variants.{Ended, More}
-use Rattle.reading.proofs.Laws.{matched, table-at, read-switch, read-value, read-none, next-coded, to-value, to-switch}
+use Rattle.reading.proofs.Laws.{matched, table-at, read-switch, read-value, compared-switch, compared-value, to-value, to-switch}
 
 -- ---- two's complement, 131,072 added
 
@@ -82,17 +86,19 @@ seen-left s at w h = record { window = h; small = small-drop at (bitsIn s) (smal
 
 -- ---- the search
 
--- what the structure at k and those behind it match
+-- what the structure at k and those behind it match, and how many of them are compared
 module _ (cs : List Structure) (bs : List ℕ) (k : ℕ) (h : k < length cs) where
   -- the bits begin with its prefix
-  pub matching-here : begins (prefixOf (getD cs k noStructure)) bs ≡ true → matching (drop k cs) bs ≡ some (getD cs k noStructure)
-  unfolding matching
-  matching-here e = rw (drop-cons cs k noStructure h, e)
+  pub matching-here : begins (prefixOf (getD cs k noStructure)) bs ≡ true
+      → (matching (drop k cs) bs ≡ some (getD cs k noStructure)) × (comparedIn (drop k cs) bs ≡ 1)
+  unfolding matching comparedIn
+  matching-here e = (rw (drop-cons cs k noStructure h, e), rw (drop-cons cs k noStructure h, e))
 
   -- they do not, so those behind it decide
-  pub matching-behind : begins (prefixOf (getD cs k noStructure)) bs ≡ false → matching (drop k cs) bs ≡ matching (drop (suc k) cs) bs
-  unfolding matching
-  matching-behind e = rw (drop-cons cs k noStructure h, e)
+  pub matching-behind : begins (prefixOf (getD cs k noStructure)) bs ≡ false
+      → (matching (drop k cs) bs ≡ matching (drop (suc k) cs) bs) × (comparedIn (drop k cs) bs ≡ suc (comparedIn (drop (suc k) cs) bs))
+  unfolding matching comparedIn
+  matching-behind e = (rw (drop-cons cs k noStructure h, e), rw (drop-cons cs k noStructure h, e))
 
 -- no structure is left
 pub matching-end : (cs : List Structure) (bs : List ℕ) (k : ℕ) → length cs ≤ k → matching (drop k cs) bs ≡ none
@@ -109,8 +115,8 @@ none-formed : (m : Option Structure) → none ≡ formed m → m ≡ none
 none-formed none h = refl
 none-formed (some c) h = cc
 
--- a form that is that of a right structure, which is matched in a table
-pub record FoundForm (tables : List (List Structure)) (table : ℕ) (bs : List ℕ) (f : Form) : Type 0 where
+-- a form that is that of a right structure, which is matched at a place of a table
+pub record FoundForm (tables : List (List Structure)) (table : ℕ) (bs : List ℕ) (f : Form) (place : ℕ) : Type 0 where
   pub structure : Structure
   pub match : matching (tableOf tables table) bs ≡ some structure
   pub form : formOf structure ≡ f
@@ -118,12 +124,18 @@ pub record FoundForm (tables : List (List Structure)) (table : ℕ) (bs : List �
   pub small : structure .base < 65536
   pub fine : FineForm f
   pub long : f .prefix ≤ length bs
+  pub counted : comparedIn (tableOf tables table) bs ≡ place
+  pub few : place ≤ mostStructures
 
 -- a form that was found is such a one
 pub found-form : {tables : List (List Structure)} {tab : List ℕ} → Compiled tables tab → (table : ℕ) → 1 ≤ table → table ≤ 8
-    → (bs : List ℕ) (f : Form) → some f ≡ formed (matching (getD tables (table - 1) []) bs) → FoundForm tables table bs f
+    → (bs : List ℕ) (r : Found) (f : Form) (place : ℕ) → r ≡ At f place →
+    let cs = getD tables (table - 1) [] in
+    foundIn r ≡ formed (matching cs bs) → Placed (comparedIn cs bs) r → FoundForm tables table bs f place
 unfolding formOf
-found-form {tables} ready table h g bs f found =
+found-form {tables} ready table h g bs r f place is told placed =
+    let found : some f ≡ formed (matching (getD tables (table - 1) []) bs) = sym (ap foundIn is) ∙ told in
+    let at : place ≡ comparedIn (getD tables (table - 1) []) bs = subst (Placed (comparedIn (getD tables (table - 1) []) bs)) is placed in
     let t = table - 1 in
     let l : t < 8 = omega arith in
     let cs = getD tables t [] in
@@ -138,27 +150,36 @@ found-form {tables} ready table h g bs f found =
       small = rw (m .stands) at (ready .twoBytes t (m .place));
       fine = rw (← d .2) (form-fine 8 (d .0) (omega arith) right);
       long = rw (← d .2) (m .long);
+      counted = ap (λ (l : List Structure). comparedIn l bs) (table-at tables table h) ∙ sym at;
+      few = omega (arith, m .counted, m .there, held-count ready t l, ready .says t l .count);
     }
 
-module _ {tables : List (List Structure)} {table : ℕ} {f : Form} (right : every (tableRight (length tables)) tables ≡ true) where
+module _ {tables : List (List Structure)} {table : ℕ} {f : Form} {place : ℕ} (right : every (tableRight (length tables)) tables ≡ true) where
   -- the form of a value ends the step
-  pub read-form : {bs : List ℕ} (d : FoundForm tables table bs f) → f .to ≡ 0
-      → readCoded tables table bs
-      ≡ valueOf (remainderOf (d .structure)) (d .structure .base) table (drop (d .structure .prefix) bs)
+  pub read-form : {bs : List ℕ} (d : FoundForm tables table bs f place) → f .to ≡ 0
+      → (readCoded tables table bs
+      ≡ valueOf (remainderOf (d .structure)) (d .structure .base) table (drop (d .structure .prefix) bs))
+      × (comparedCoded tables table bs ≡ place)
   read-form {bs} d h =
-      read-value (length tables) tables right table bs (d .structure) (d .match)
-      (to-value 8 (d .structure) (d .right) (ap (λ (x : Form). x .to) (d .form) ∙ h))
+      let value = to-value 8 (d .structure) (d .right) (ap (λ (x : Form). x .to) (d .form) ∙ h) in (
+        read-value (length tables) tables right table bs (d .structure) (d .match) value,
+        compared-value (length tables) tables right table bs (d .structure) (d .match) value ∙ d .counted,
+      )
 
   -- the form of a switch carries on
-  pub read-on : (at : ℕ) (l : List ℕ) → FoundForm tables table (drop at l) f → (f .to ≡ 0 → ⊥)
-      → readCoded tables table (drop at l) ≡ readCoded tables (f .to) (drop (at + f .prefix) l)
+  pub read-on : (at : ℕ) (l : List ℕ) → FoundForm tables table (drop at l) f place → (f .to ≡ 0 → ⊥) →
+      let behind = drop (at + f .prefix) l in
+      (readCoded tables table (drop at l) ≡ readCoded tables (f .to) behind)
+      × (comparedCoded tables table (drop at l) ≡ place + comparedCoded tables (f .to) behind)
   unfolding formOf
   read-on at l d h =
       let to = ap (λ (x : Form). x .to) (d .form) in
       let s = to-switch (d .structure) (λ e. h (sym to ∙ e)) in
       let p : d .structure .prefix ≡ f .prefix = ap (λ (x : Form). x .prefix) (d .form) in
-      read-switch (length tables) tables right table (drop at l) (d .structure) (d .match) (s .0)
-      ∙ rw (s .1 ∙ to, drop-drop (d .structure .prefix) at l, p)
+      let on = drop-drop (d .structure .prefix) at l in (
+        read-switch (length tables) tables right table (drop at l) (d .structure) (d .match) (s .0) ∙ rw (s .1 ∙ to, on, p),
+        compared-switch (length tables) tables right table (drop at l) (d .structure) (d .match) (s .0) ∙ rw (s .1 ∙ to, on, p, d .counted),
+      )
 
 -- nothing was found, so nothing is matched
 pub found-none : (tables : List (List Structure)) (table : ℕ) (bs : List ℕ) → 1 ≤ table
@@ -200,36 +221,12 @@ rest-half {d} {f} v h = rw (v .lo) (half-of (d .base) (f .remainder) h (v .fine 
 
 -- ---- the next value of a stream
 
--- past the end of the bits there is none
-pub next-past : (tables : List (List Structure)) (table at : ℕ) (s : List ℕ) → length s * 8 < at
-    → readNext tables table (drop at (bitsIn s)) ≡ stuck
-unfolding readNext readPlain readCoded readWithin
-next-past tables table at s h =
-    let past : length (bitsIn s) ≤ at = omega (arith, length-bitsIn s) in
-    rw (drop-of-length-le (bitsIn s) past) (go tables)
-  where
-    go : (l : List (List Structure)) → readNext l table [] ≡ stuck
-    go [] = refl
-    go (t ∷ ts) = refl
-
--- no numbers hold no tables, so that a value is two bytes
+-- no numbers hold no tables, so that a value is two bytes, and nothing is compared
 pub next-plain : (tables : List (List Structure)) (tab : List ℕ) → CompiledOrNone tables tab → length tab ≡ 0
-    → (table : ℕ) (bs : List ℕ) → readNext tables table bs ≡ readPlain table bs
-unfolding readNext
+    → (table : ℕ) (bs : List ℕ) → (readNext tables table bs ≡ readPlain table bs) × (comparedNext tables table bs ≡ 0)
+unfolding readNext comparedNext
 next-plain tables tab (inl ready) e table bs = absurd (omega (arith, ready .room))
-next-plain tables tab (inr empty) e table bs = rw (empty .0)
-
--- not in a table that is not there
-pub next-outside : {tables : List (List Structure)} {tab : List ℕ} → Compiled tables tab → (table : ℕ) (bs : List ℕ)
-    → (table < 1) ⊎ (8 < table) → readNext tables table bs ≡ stuck
-unfolding tableOf matching
-next-outside {tables} ready table bs h =
-    next-coded tables (ready .some) table bs ∙ read-none (length tables) tables (ready .right) table bs (go table h)
-  where
-    go : (n : ℕ) → (n < 1) ⊎ (8 < n) → matching (tableOf tables n) bs ≡ none
-    go zero h = refl
-    go (suc n) (inl h) = absurd (omega arith)
-    go (suc n) (inr h) = rw (List·getD-eq-default tables [] {n = n} (omega (arith, ready .most)))
+next-plain tables tab (inr empty) e table bs = (rw (empty .0), rw (empty .0))
 
 -- ---- cursors that are further on
 

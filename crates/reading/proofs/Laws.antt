@@ -1,9 +1,10 @@
 -- The reading rule, the number of codes hidden: what the proofs of this crate and of those above it cite. Assumes nothing.
 use Prim.Native.Nat.{ℕ, zero, suc, _+_, _-_, _≤_, _<_}
-use mathlib.Core.Path.{_≡_, refl, ap}
+use mathlib.Core.Path.{_≡_, refl, sym, ap, _∙_}
 use mathlib.Core.Bool.{Bool, true, false, cond}
 use mathlib.Core.List.{List, [], _∷_, _++_}
 use mathlib.Core.Option.{Option, none, some}
+use native.Mathlib.Nat.{add-zero}
 use native.Mathlib.Decide.{decLt}
 use native.Mathlib.Omega.{arith}
 use borrow.Author.Tests.{le-leb, lt-leb, eq-eqb, ne-eqb, eqb-true}
@@ -20,7 +21,8 @@ use Rattle.tables.specs.Section2.{tableOf, tableRight}
 use Rattle.wire.proofs.Every.{every-at}
 use Rattle.tables.proofs.Laws.{fine, RightTable, right-at}
 use Rattle.compiled.specs.InnerForm.{formOf}
-use Rattle.reading.specs.Reading.{Next, gave, stuck, matching, valueOf, afterMatch, readWithin, readCoded, readNext}
+use Rattle.reading.specs.Reading.{gave, stuck, matching, valueOf, afterMatch, readWithin, readCoded, readNext}
+use Rattle.reading.specs.Compared.{comparedIn, comparedAfter, comparedWithin, comparedCoded, comparedNext}
 
 -- ---- the structure that bits begin with
 
@@ -30,17 +32,18 @@ begins-parts p c l h =
     let split = rw (length-lowFirst p c) at (begins-split (lowFirst p c) l h) in
     (split, omega (arith, ap length split, length-lowFirst p c, length-append (lowFirst p c) (drop p l)))
 
--- where a structure is in its table, and that the bits begin with its prefix
+-- where a structure is in its table, from 0, and that the bits begin with its prefix; just the structures up to it are compared
 pub record Matched (cs : List Structure) (bs : List ℕ) (c : Structure) : Type 0 where
   pub place : ℕ
   pub there : place < length cs
   pub stands : getD cs place noStructure ≡ c
   pub split : bs ≡ prefixOf c ++ drop (c .prefix) bs
   pub long : c .prefix ≤ length bs
+  pub counted : comparedIn cs bs ≡ suc place
 
 -- so does a structure that is matched
 pub matched : (cs : List Structure) (bs : List ℕ) (c : Structure) → matching cs bs ≡ some c → Matched cs bs c
-unfolding matching
+unfolding matching comparedIn
 matched [] bs c h = unlike cc
 matched (d ∷ cs) bs c h = go (begins (prefixOf d) bs) refl h (matched cs bs c)
   where
@@ -49,12 +52,35 @@ matched (d ∷ cs) bs c h = go (begins (prefixOf d) bs) refl h (matched cs bs c)
     go true e g behind =
         let same : d ≡ c = cc in
         let split = begins-parts (d .prefix) (d .code) bs e in
-        record { place = 0; there = omega arith; stands = same; split = rw (← same) (split .0); long = rw (← same) (split .1) }
+        record {
+          place = 0;
+          there = omega arith;
+          stands = same;
+          split = rw (← same) (split .0);
+          long = rw (← same) (split .1);
+          counted = rw e;
+        }
     go false e g behind =
         let m = behind g in
-        record { place = suc (m .place); there = omega arith; stands = m .stands; split = m .split; long = m .long }
+        record {
+          place = suc (m .place);
+          there = omega arith;
+          stands = m .stands;
+          split = m .split;
+          long = m .long;
+          counted = rw e (ap suc (m .counted));
+        }
 
 -- ---- reading, the number of codes hidden
+
+-- what is found code by code, within so many codes: nothing of none; and after a match the bits behind its code alone decide
+record CodeByCode (tables : List (List Structure)) {A : Type 0} (nothing : A) (after : (ℕ → List ℕ → A) → Option Structure → ℕ → List ℕ → A)
+    (within : ℕ → ℕ → List ℕ → A) : Type 0 where
+  unmatched : (x : ℕ → List ℕ → A) (table : ℕ) (bs : List ℕ) → after x none table bs ≡ nothing
+  behind : (x y : ℕ → List ℕ → A) (c : Structure) (table : ℕ) (bs : List ℕ)
+      → x (c .base) (drop (c .prefix) bs) ≡ y (c .base) (drop (c .prefix) bs) → after x (some c) table bs ≡ after y (some c) table bs
+  none-yet : (table : ℕ) (bs : List ℕ) → within zero table bs ≡ nothing
+  one-more : (f table : ℕ) (bs : List ℕ) → within (suc f) table bs ≡ after (within f) (matching (tableOf tables table) bs) table bs
 
 module _ (n : ℕ) (tables : List (List Structure)) (right : every (tableRight n) tables ≡ true) where
   -- a table that has a structure is one of the tables, and right
@@ -91,31 +117,68 @@ module _ (n : ℕ) (tables : List (List Structure)) (right : every (tableRight n
   none-left table bs none h e = refl
   none-left table bs (some c) h e = absurd (omega (arith, falls table bs c e))
 
-  -- two ways to carry on that agree on fewer bits agree after a match
-  after-same : (x y : ℕ → List ℕ → Next) (table : ℕ) (bs : List ℕ) (m : Option Structure) → matching (tableOf tables table) bs ≡ m
-      → ((k : ℕ) (l : List ℕ) → length l < length bs → x k l ≡ y k l) → afterMatch x m table bs ≡ afterMatch y m table bs
-  unfolding afterMatch
-  after-same x y table bs none e same = refl
-  after-same x y table bs (some c) e same = rw (same (c .base) (drop (c .prefix) bs) (falls table bs c e))
+  module _ {A : Type 0} {nothing : A} {after : (ℕ → List ℕ → A) → Option Structure → ℕ → List ℕ → A} {within : ℕ → ℕ → List ℕ → A}
+      (by : CodeByCode tables nothing after within) where
+    -- two ways to carry on that agree on fewer bits agree after a match
+    after-same : (x y : ℕ → List ℕ → A) (table : ℕ) (bs : List ℕ) (m : Option Structure) → matching (tableOf tables table) bs ≡ m
+        → ((k : ℕ) (l : List ℕ) → length l < length bs → x k l ≡ y k l) → after x m table bs ≡ after y m table bs
+    after-same x y table bs none e same = by .unmatched x table bs ∙ sym (by .unmatched y table bs)
+    after-same x y table bs (some c) e same = by .behind x y c table bs (same (c .base) (drop (c .prefix) bs) (falls table bs c e))
 
-  -- as many codes as bits are enough
-  enough : (f g table : ℕ) (bs : List ℕ) → length bs ≤ f → length bs ≤ g → readWithin f tables table bs ≡ readWithin g tables table bs
-  unfolding readWithin afterMatch
-  enough zero zero table bs hf hg = refl
-  enough zero (suc g) table bs hf hg = rw (none-left table bs (matching (tableOf tables table) bs) hf refl)
-  enough (suc f) zero table bs hf hg = rw (none-left table bs (matching (tableOf tables table) bs) hg refl)
-  enough (suc f) (suc g) table bs hf hg =
-      after-same (readWithin f tables) (readWithin g tables) table bs (matching (tableOf tables table) bs) refl
-      (λ k l h. enough f g k l (omega arith) (omega arith))
+    -- of no bits nothing is found
+    found-none : (x : ℕ → List ℕ → A) (table : ℕ) (bs : List ℕ) → length bs ≤ 0 → after x (matching (tableOf tables table) bs) table bs ≡ nothing
+    found-none x table bs h =
+        ap (λ (m : Option Structure). after x m table bs) (none-left table bs (matching (tableOf tables table) bs) h refl)
+        ∙ by .unmatched x table bs
 
-  -- a code is matched in the current table, and reading carries on by the same rule
+    -- as many codes as bits are enough
+    enough : (f g table : ℕ) (bs : List ℕ) → length bs ≤ f → length bs ≤ g → within f table bs ≡ within g table bs
+    enough zero zero table bs hf hg = refl
+    enough zero (suc g) table bs hf hg = by .none-yet table bs ∙ sym (by .one-more g table bs ∙ found-none (within g) table bs hf)
+    enough (suc f) zero table bs hf hg = by .one-more f table bs ∙ found-none (within f) table bs hg ∙ sym (by .none-yet table bs)
+    enough (suc f) (suc g) table bs hf hg =
+        by .one-more f table bs
+        ∙ after-same (within f) (within g) table bs (matching (tableOf tables table) bs) refl
+        (λ k l h. enough f g k l (omega arith) (omega arith))
+        ∙ sym (by .one-more g table bs)
+
+    -- a code is matched in the current table, and what follows is found in the same way
+    step : (table : ℕ) (bs : List ℕ)
+        → within (length bs) table bs ≡ after (λ k l. within (length l) k l) (matching (tableOf tables table) bs) table bs
+    step table [] = by .none-yet table [] ∙ sym (found-none (λ k l. within (length l) k l) table [] (omega arith))
+    step table (b ∷ bs) =
+        by .one-more (length bs) table (b ∷ bs)
+        ∙ after-same (within (length bs)) (λ k l. within (length l) k l) table (b ∷ bs) (matching (tableOf tables table) (b ∷ bs)) refl
+        (λ k l h. enough (length bs) (length l) k l (omega arith) (omega arith))
+
+  -- a value is read so
   pub read-step : (table : ℕ) (bs : List ℕ)
       → readCoded tables table bs ≡ afterMatch (readCoded tables) (matching (tableOf tables table) bs) table bs
   unfolding readCoded readWithin afterMatch
-  read-step table [] = rw (none-left table [] (matching (tableOf tables table) []) (omega arith) refl)
-  read-step table (b ∷ bs) =
-      after-same (readWithin (length bs) tables) (readCoded tables) table (b ∷ bs) (matching (tableOf tables table) (b ∷ bs)) refl
-      (λ k l h. enough (length bs) (length l) k l (omega arith) (omega arith))
+  read-step table bs =
+      step {nothing = stuck} {after = afterMatch} {within = λ f. readWithin f tables} (record {
+        unmatched = λ x t l. refl;
+        behind = λ x y c t l e. rw e;
+        none-yet = λ t l. refl;
+        one-more = λ f t l. refl;
+      })
+      table
+      bs
+
+  -- and the structures compared for it are summed up so
+  pub compared-step : (table : ℕ) (bs : List ℕ) →
+      let cs = tableOf tables table in
+      comparedCoded tables table bs ≡ comparedAfter (comparedCoded tables) cs (matching cs bs) bs
+  unfolding comparedCoded comparedWithin comparedAfter
+  compared-step table bs =
+      step {nothing = 0} {after = λ x m t l. comparedAfter x (tableOf tables t) m l} {within = λ f. comparedWithin f tables} (record {
+        unmatched = λ x t l. refl;
+        behind = λ x y c t l e. rw e;
+        none-yet = λ t l. refl;
+        one-more = λ f t l. refl;
+      })
+      table
+      bs
 
   -- a switch carries on in the table that it leads to
   pub read-switch : (table : ℕ) (bs : List ℕ) (c : Structure) → matching (tableOf tables table) bs ≡ some c → c .mode ≡ 0
@@ -129,6 +192,17 @@ module _ (n : ℕ) (tables : List (List Structure)) (right : every (tableRight n
   unfolding afterMatch
   read-value table bs c h m = rw (read-step table bs, h, ne-eqb (c .mode) 0 m)
 
+  -- a switch counts with the codes behind it, and a value's code is the last
+  pub compared-switch : (table : ℕ) (bs : List ℕ) (c : Structure) → matching (tableOf tables table) bs ≡ some c → c .mode ≡ 0
+      → comparedCoded tables table bs ≡ comparedIn (tableOf tables table) bs + comparedCoded tables (c .base) (drop (c .prefix) bs)
+  unfolding comparedAfter
+  compared-switch table bs c h m = rw (compared-step table bs, h, eq-eqb (c .mode) 0 m)
+
+  pub compared-value : (table : ℕ) (bs : List ℕ) (c : Structure) → matching (tableOf tables table) bs ≡ some c → (c .mode ≡ 0 → ⊥)
+      → comparedCoded tables table bs ≡ comparedIn (tableOf tables table) bs
+  unfolding comparedAfter
+  compared-value table bs c h m = rw (compared-step table bs, h, ne-eqb (c .mode) 0 m, add-zero (comparedIn (tableOf tables table) bs))
+
   -- a code that matches nothing gives none
   pub read-none : (table : ℕ) (bs : List ℕ) → matching (tableOf tables table) bs ≡ none → readCoded tables table bs ≡ stuck
   unfolding afterMatch
@@ -140,6 +214,12 @@ pub next-coded : (tables : List (List Structure)) → 1 ≤ length tables → (t
 unfolding readNext
 next-coded [] h table bs = absurd (omega arith)
 next-coded (cs ∷ tables) h table bs = refl
+
+pub compared-coded : (tables : List (List Structure)) → 1 ≤ length tables → (table : ℕ) (bs : List ℕ)
+    → comparedNext tables table bs ≡ comparedCoded tables table bs
+unfolding comparedNext
+compared-coded [] h table bs = absurd (omega arith)
+compared-coded (cs ∷ tables) h table bs = refl
 
 -- the table of a number, counted from 0
 pub table-at : (tables : List (List Structure)) (table : ℕ) → 1 ≤ table → tableOf tables table ≡ getD tables (table - 1) []

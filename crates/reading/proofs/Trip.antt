@@ -17,6 +17,7 @@ use Rattle.tables.specs.Structures.{prefixOf, remainderOf, apart, noStructure}
 use Rattle.tables.specs.Section2.{tableOf, tableRight}
 use Rattle.tables.proofs.Laws.{free-at}
 use Rattle.reading.specs.Reading.{gave, matching, readCoded}
+use Rattle.reading.specs.Compared.{comparedIn}
 use Rattle.reading.proofs.Laws.{table-there, read-switch, read-value, value-base, value-rest}
 
 -- where neither of two lists begins the other, the one does not begin the other with more behind
@@ -31,35 +32,46 @@ apart-begins (a ∷ p) (b ∷ q) l h = go (eqb a b) refl h (apart-begins p q l)
     go false e g rest = refl
     go true e g rest = rest (rw (eq-eqb b a (sym (eqb-true a b e))) at g)
 
--- of structures that are apart, the one whose prefix was written is matched
+-- of structures that are apart, the one whose prefix was written is matched, at its own place
 matching-apart : (cs : List Structure)
     → ((j k : ℕ) → j < k → k < length cs → apart (getD cs j noStructure) (getD cs k noStructure) ≡ true)
-    → (k : ℕ) → k < length cs → (bs : List ℕ) → matching cs (prefixOf (getD cs k noStructure) ++ bs) ≡ some (getD cs k noStructure)
-unfolding matching apart
+    → (k : ℕ) → k < length cs → (bs : List ℕ) →
+    let l = prefixOf (getD cs k noStructure) ++ bs in
+    (matching cs l ≡ some (getD cs k noStructure)) × (comparedIn cs l ≡ suc k)
+unfolding matching comparedIn apart
 matching-apart [] free k h bs = absurd (omega arith)
-matching-apart (c ∷ cs) free zero h bs = rw (begins-append (prefixOf c) bs)
+matching-apart (c ∷ cs) free zero h bs = let own = begins-append (prefixOf c) bs in (rw own, rw own)
 matching-apart (d ∷ cs) free (suc k) h bs =
     let other = apart-begins (prefixOf d) (prefixOf (getD cs k noStructure)) bs (free 0 (suc k) (omega arith) h) in
-    rw other (matching-apart cs (λ i j g l. free (suc i) (suc j) (omega arith) (omega arith)) k (omega arith) bs)
+    let behind = matching-apart cs (λ i j g l. free (suc i) (suc j) (omega arith) (omega arith)) k (omega arith) bs in
+    (rw other (behind .0), rw other (ap suc (behind .1)))
 
 -- so is one whose prefix the bits begin with
 pub matching-begun : (cs : List Structure)
     → ((j k : ℕ) → j < k → k < length cs → apart (getD cs j noStructure) (getD cs k noStructure) ≡ true)
     → (k : ℕ) → k < length cs → (bs : List ℕ) → begins (prefixOf (getD cs k noStructure)) bs ≡ true
-    → matching cs bs ≡ some (getD cs k noStructure)
+    → (matching cs bs ≡ some (getD cs k noStructure)) × (comparedIn cs bs ≡ suc k)
 matching-begun cs free k h bs e =
     let p = prefixOf (getD cs k noStructure) in
-    ap (matching cs) (begins-split p bs e) ∙ matching-apart cs free k h (drop (length p) bs)
+    let own = matching-apart cs free k h (drop (length p) bs) in
+    let split = begins-split p bs e in
+    (ap (matching cs) split ∙ own .0, ap (comparedIn cs) split ∙ own .1)
 
 -- a structure c is at place k of a right table
 module _ (n : ℕ) (tables : List (List Structure)) (right : every (tableRight n) tables ≡ true) (table : ℕ) (k : ℕ) (c : Structure)
     (there : k < length (tableOf tables table)) (stands : getD (tableOf tables table) k noStructure ≡ c) (bs : List ℕ) where
-  -- it is the one that its own prefix matches
-  pub matching-own : matching (tableOf tables table) (prefixOf c ++ bs) ≡ some c
-  matching-own =
+  -- it is the one that its own prefix matches, and just the structures up to it are compared
+  own : (matching (tableOf tables table) (prefixOf c ++ bs) ≡ some c) × (comparedIn (tableOf tables table) (prefixOf c ++ bs) ≡ suc k)
+  own =
       let cs = tableOf tables table in
       let free = table-there n tables right table (omega arith) .free in
       rw stands at (matching-apart cs (free-at cs free) k there bs)
+
+  pub matching-own : matching (tableOf tables table) (prefixOf c ++ bs) ≡ some c
+  matching-own = own .0
+
+  pub compared-own : comparedIn (tableOf tables table) (prefixOf c ++ bs) ≡ suc k
+  compared-own = own .1
 
   -- the bits behind its prefix
   behind : drop (c .prefix) (prefixOf c ++ bs) ≡ bs

@@ -1,6 +1,6 @@
 // Reads the published streams by the library and writes each result on a line of its own: the values, or how many where they are more
-// than 100, 12 where reading is stuck, and behind a bar the bits that the values took; or 7 where Section 2 is not right. The last two
-// lines are of the longest lead, 65,535 bytes: all switches, and all codes of one bit.
+// than 100, 12 where reading is stuck, behind a bar the bits that the values took, and behind another the structures compared; or 7 where
+// Section 2 is not right. The last two lines are of the longest lead, 65,535 bytes: all switches, and all codes of one bit.
 ghost use Prim.Native.Nat.{_≤_};
 ghost use lib.ListN.{length};
 ghost use Rattle.compiled.specs.InnerForm.{CompiledSomeOrNone};
@@ -101,14 +101,16 @@ fn put_value(x: usize, count: usize) {
     put(b" ");
 }
 
-// How many values there are, where none was shown; the bits used, and the line's end.
-fn put_end(count: usize, at: usize) {
+// How many values there are, where none was shown; the bits used, the structures compared, and the line's end.
+fn put_end(count: usize, at: usize, compared: usize) {
     if 100 < count {
         put_number(count);
         put(b" ");
     }
     put(b"| ");
     put_number(at);
+    put(b" | ");
+    put_number(compared);
     put(b"\n");
 }
 
@@ -131,7 +133,7 @@ fn put_values(stream: &[u8], tab: &[u32], count: usize)
             }
         }
     }
-    put_end(count, c.at);
+    put_end(count, c.at, c.compared);
 }
 
 // So many values of a stream, by the tables of Section 2's data; without tables where these are empty.

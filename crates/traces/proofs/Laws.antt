@@ -4,7 +4,7 @@ use mathlib.Core.Path.{_≡_, refl, sym, ap, subst, _∙_}
 use mathlib.Core.Bool.{Bool, true, false, cond}
 use mathlib.Core.List.{List, [], _∷_, _++_, append-nil}
 use mathlib.Core.Logic.{_⊎_, inl, inr}
-use native.Mathlib.Nat.{sub-zero}
+use native.Mathlib.Nat.{add-zero, sub-zero}
 use native.Mathlib.Numerals.{add-one}
 use native.Mathlib.Omega.{arith}
 use borrow.Author.Tests.{lt-ltb, le-ltb, le-leb, lt-leb}
@@ -20,6 +20,7 @@ use Rattle.samples.specs.InnerTrace.{before, traceOf}
 use Rattle.samples.proofs.Laws.{fits-lower, before-none, before-more}
 use Rattle.tables.specs.declared.Structure.{Structure}
 use Rattle.reading.specs.Reading.{Next, gave, stuck, readNext}
+use Rattle.reading.specs.Compared.{comparedFrom, comparedOf}
 use Rattle.traces.specs.Rebuilding.{afterNext, mostLeftOver, rebuildFrom, rebuild}
 
 -- ---- one sample
@@ -67,6 +68,12 @@ pub room-start : (tables : List (List Structure)) (order n at table : ℕ) (bs :
 unfolding rebuild fromZero
 room-start tables order n at table bs e f = rw (e, f, sub-zero, before-none (rebuildFrom tables order n 0 (pos 0) (pos 0) 1 bs))
 
+-- and nothing is compared yet
+pub sum-start : (tables : List (List Structure)) (n at table compared : ℕ) (bs : List ℕ) → at ≡ 0 → table ≡ 1 → compared ≡ 0
+    → compared + comparedFrom tables (n - 0) table (drop at bs) ≡ comparedOf tables n bs
+unfolding comparedOf
+sum-start tables n at table compared bs e f g = rw (e, f, g, sub-zero) (omega arith)
+
 -- a sample is put behind those that are there
 pub room-turn : {all : Trace} (rest : Trace) (room : List ℤ) (j : ℕ) (x : ℤ) → j < length room → all ≡ before (take j room) (behind x rest)
     → all ≡ before (take (j + 1) (set room j x)) rest
@@ -78,6 +85,12 @@ room-turn rest room j x h e =
 pub room-fault : (number : ℕ) (room : List ℤ) → 1 ≤ number → traceOf number room ≡ fault number
 room-fault zero room h = absurd (omega arith)
 room-fault (suc n) room h = refl
+
+-- no value is left
+pub sum-end : (tables : List (List Structure)) (left table : ℕ) (bs : List ℕ) {compared all : ℕ} → left ≡ 0
+    → compared + comparedFrom tables left table bs ≡ all → compared ≡ all
+unfolding comparedFrom
+sum-end tables left table bs {compared} none e = sym (add-zero compared) ∙ rw none at e
 
 -- all samples are there
 module _ (tables : List (List Structure)) (order left j : ℕ) (last other : ℤ) (table : ℕ) (bs : List ℕ) (none : left ≡ 0)

@@ -1,16 +1,19 @@
 // Rebuilding a lead or a beat from its stream (01, Leads and samples; refusals 12 to 14): each code is read once, into room whose
-// contents count only where nothing was refused.
+// contents count only where nothing was refused. The structures compared are summed up (Q-6).
 ghost use mathlib.Core.Path.{_≡_};
 ghost use mathlib.Core.List.{List};
 ghost use Prim.Native.Nat.{ℕ, suc, _+_, _*_, _<_, _≤_};
 ghost use lib.ListN.{length, drop};
+ghost use Rattle.wire.specs.Bounds.{mostStructures};
 ghost use Rattle.bits.specs.Bits.{bitsIn};
 ghost use Rattle.bits.specs.InnerRaised.{sampleZero, fromZero};
 ghost use Rattle.samples.specs.InnerTrace.{traceOf};
 ghost use Rattle.tables.specs.declared.Structure.{Structure};
 ghost use Rattle.compiled.specs.InnerForm.{CompiledOrNone, CompiledSomeOrNone};
+ghost use Rattle.reading.specs.Compared.{comparedFrom, comparedOf};
+ghost use Rattle.reading.specs.InnerCursor.{Within};
 ghost use Rattle.traces.specs.Rebuilding.{rebuildFrom, rebuild};
-ghost use Rattle.traces.specs.InnerTrace.{traceFrom, SampledWithin};
+ghost use Rattle.traces.specs.InnerTrace.{traceFrom, SampledWithin, SampledSum};
 use reading::Cursor;
 use reading::Read;
 
@@ -18,6 +21,12 @@ use reading::Read;
 pub enum Sampled {
     Sample(usize, Cursor),
     Fault(u8),
+}
+
+// The end of rebuilding: 0, or the number of the first fault met; and, where it is 0, how many structures were compared.
+pub struct Rebuilt {
+    pub fault: u8,
+    pub compared: usize,
 }
 
 // At most this many bits left over behind the last sample are ignored (01, Refusal numbers, row 14; Q-1): some carts pad a lead to an
@@ -34,12 +43,15 @@ fn next_sample(
     last: usize,
     other: usize,
 ) -> Sampled
-    requires { ⌜ CompiledSomeOrNone (now tab) × (length (now s) ≤ 1048576) × (last < 65536) × (other < 65536) ⌝ }
+    requires { ⌜ CompiledSomeOrNone (now tab) × (length (now s) ≤ 1048576) × (last < 65536) × (other < 65536) × Within (length (now s) * 8) c ⌝ }
     ensures told { λ r. ⌜ ((tables : List (List Structure)) (left : ℕ) → CompiledOrNone tables (now (tab .entry))
         → traceFrom (bitsIn (now (s .entry))) (λ x. rebuildFrom tables order left (place + 1) x (fromZero sampleZero last)) r
         ≡ rebuildFrom tables order (suc left) place (fromZero sampleZero last) (fromZero sampleZero other) (c .table)
         (drop (c .at) (bitsIn (now (s .entry))))) ⌝ }
     ensures fits { λ r. ⌜ SampledWithin (length (now (s .entry)) * 8) r ⌝ }
+    ensures summed { λ r. ⌜ ((tables : List (List Structure)) (left : ℕ) → CompiledOrNone tables (now (tab .entry))
+        → SampledSum (λ d. d .compared + comparedFrom tables left (d .table) (drop (d .at) (bitsIn (now (s .entry)))))
+        (c .compared + comparedFrom tables (suc left) (c .table) (drop (c .at) (bitsIn (now (s .entry))))) r) ⌝ }
 {
     match c.value(s, tab) {
         Read::Value(v, d) => {
@@ -56,12 +68,15 @@ fn next_sample(
     }
 }
 
-// The room is filled with the samples that a stream is rebuilt to: 0, or the number of the first fault met.
-pub fn rebuild(s: &[u8], tab: &[u32], order: usize, room: &mut [i16]) -> u8
+// The room is filled with the samples that a stream is rebuilt to.
+pub fn rebuild(s: &[u8], tab: &[u32], order: usize, room: &mut [i16]) -> Rebuilt
     requires { ⌜ CompiledSomeOrNone (now tab) × (length (now s) ≤ 1048576) ⌝ }
     ensures { λ r. ⌜ ((tables : List (List Structure)) → CompiledOrNone tables (now (tab .entry))
-        → traceOf r (now (room .exit)) ≡ rebuild tables order (length (now (room .entry))) (bitsIn (now (s .entry))))
+        → traceOf (r .fault) (now (room .exit)) ≡ rebuild tables order (length (now (room .entry))) (bitsIn (now (s .entry))))
         × (length (now (room .exit)) ≡ length (now (room .entry))) ⌝ }
+    ensures summed { λ r. ⌜ ((tables : List (List Structure)) → CompiledOrNone tables (now (tab .entry)) → r .fault ≡ 0
+        → r .compared ≡ comparedOf tables (length (now (room .entry))) (bitsIn (now (s .entry))))
+        × (r .compared ≤ mostStructures * (length (now (s .entry)) * 8)) ⌝ }
 {
     let n = room.len();
     let mut c = Cursor::new();
@@ -78,12 +93,19 @@ pub fn rebuild(s: &[u8], tab: &[u32], order: usize, room: &mut [i16]) -> u8
                 j += 1;
             }
             Sampled::Fault(number) => {
-                return number;
+                return Rebuilt {
+                    fault: number,
+                    compared: c.compared,
+                };
             }
         }
     }
+    let compared = c.compared;
     if s.len() * 8 - c.at <= MOST_LEFT_OVER {
-        return 0;
+        return Rebuilt { fault: 0, compared };
     }
-    14
+    Rebuilt {
+        fault: 14,
+        compared,
+    }
 }

@@ -27,6 +27,7 @@ use Rattle.entries.specs.Sections5And6.{byteCountOf, streamOf, section6Right}
 use Rattle.rules.specs.LeadRules.{tablesRight, leadCountOf, beatSubtracted, beatRight, section6Kept, sections3To6Right, stepsAgree, agrees, hasLead, leadRefusal}
 use Rattle.samples.specs.Trace.{rebuilt}
 use Rattle.leads.specs.LeadTrace.{tablesOf, streamTrace, sampleCountAt, residual, traceAt, roomRight, readRefusal, readTrace}
+use Rattle.leads.specs.LeadCompared.{comparedAt}
 use Rattle.leads.specs.LeadAnswers.{leadAnswer, entryAnswer}
 use Rattle.encode.specs.Encoding.{tablesGiven, tablesGivenRight}
 use Rattle.layout.specs.Layout.{leadsData, streamsData, recordBytes}
@@ -259,6 +260,7 @@ module _ (j : Job) (founds : List (Option (List ℕ))) (streams : List (List ℕ
             interval = j .interval;
             first = getD (j .firsts) k 0;
             count = getD (j .counts) k 0;
+            compared = comparedAt r k;
           }
       lead-answered =
           let e : k + 1 - 1 ≡ k = omega arith in

@@ -18,6 +18,7 @@ use Rattle.record.specs.Opening.{openRefusal}
 use Rattle.fields.specs.Lookup.{placeFound, fieldPlace, refusalOf, partBytes}
 use Rattle.samples.specs.Trace.{rebuilt, fits16}
 use Rattle.leads.specs.LeadTrace.{readTrace}
+use Rattle.leads.specs.LeadCompared.{comparedAt}
 use Rattle.leads.specs.LeadAnswers.{leadAnswer, entryAnswer}
 use Rattle.compose.specs.Writing.{Job, cut}
 
@@ -46,7 +47,8 @@ pub record GivenBack (j : Job) (r : List ℕ) : Type 0 where
   pub walked : fieldsFrom (sectionOf r 1) dataAt ≡ map behindHeader (fieldsFrom (j .section1) 0)
   pub fields : (tag n : ℕ) (step : Step) → occurring n (withTag tag (fieldsFrom (j .section1) 0)) ≡ step
       → (refusalOf (fieldPlace r tag n) ≡ refusalOf (placeFound 0 step)) × (partBytes r (fieldPlace r tag n) ≡ shownBytes (j .section1) step)
-  -- every lead's samples, with room for them and any work space, and what is answered beside them
+  -- every lead's samples, with room for them and any work space, and what is answered beside them; how many structures are compared
+  -- depends on the stream, which the third demand fixes
   pub samples : (k room work : ℕ) → k < length (j .counts) → getD (j .counts) k 0 ≤ room → readTrace r (k + 1) room work ≡ rebuilt (samplesOf j k)
   pub answers : (k room work : ℕ) → k < length (j .counts) → getD (j .counts) k 0 ≤ room →
       leadAnswer r (k + 1) room work
@@ -58,6 +60,7 @@ pub record GivenBack (j : Job) (r : List ℕ) : Type 0 where
         interval = j .interval;
         first = getD (j .firsts) k 0;
         count = getD (j .counts) k 0;
+        compared = comparedAt r k;
       }
   -- its entry too says what the job does, all but the bytes of its stream, which the third demand fixes
   pub entries : (k : ℕ) → k < length (j .counts) → (bytes : ℕ)

@@ -10,12 +10,12 @@ use crate::rhythm::{
     DEFAULT_TABLE,
 };
 
-/// A record, what it is, and what reading its first lead gives: 0 or a refusal.
+/// A record, what it is, and what reading its first lead gives.
 pub struct Extreme {
     /// A description in a few words.
     pub name: &'static str,
-    /// The refusal, or 0.
-    pub read: u8,
+    /// How many structures are compared, or the refusal.
+    pub read: Result<u32, u8>,
     /// Its bytes.
     pub record: Vec<u8>,
 }
@@ -24,41 +24,69 @@ pub struct Extreme {
 type Make = fn() -> Vec<u8>;
 
 /// All of them, each with how it is made.
-const ALL: [(&str, u8, Make); 18] = [
-    ("as many fields as can be", 7, || {
+const ALL: [(&str, Result<u32, u8>, Make); 20] = [
+    ("as many fields as can be", Err(7), || {
         largest(Filling::EmptyFields)
     }),
-    ("fields as long as can be", 7, || {
+    ("fields as long as can be", Err(7), || {
         largest(Filling::LongFields)
     }),
-    ("a byte over the longest", 1, over_the_longest),
-    ("the shortest, Section 0 alone", 4, || {
+    ("a byte over the longest", Err(1), over_the_longest),
+    ("the shortest, Section 0 alone", Err(4), || {
         Draft::default().lay_out()
     }),
-    ("a byte under the shortest", 1, under_the_shortest),
-    ("one sample in one byte", 0, one_sample),
-    ("all bounds at once", 0, all_bounds),
-    ("32 leads of 65,536 samples", 0, long_leads),
-    ("32,767 samples of two bytes", 0, || {
+    ("a byte under the shortest", Err(1), under_the_shortest),
+    ("one sample in one byte", Ok(1), one_sample),
+    (
+        "all bounds at once",
+        Ok(compared_for_mixed(8) + compared_for_mixed(16)),
+        all_bounds,
+    ),
+    ("32 leads of 65,536 samples", Ok(65_536), long_leads),
+    ("32,767 samples of two bytes", Ok(0), || {
         samples_of_two_bytes(32_767)
     }),
-    ("65,536 samples of two bytes", 12, || {
+    ("65,536 samples of two bytes", Err(12), || {
         samples_of_two_bytes(65_536)
     }),
-    ("nothing but switches", 12, || switches("")),
-    ("switches, then a value", 0, || switches("1")),
-    ("a beat of nothing but switches", 12, || {
+    ("nothing but switches", Err(12), || switches("")),
+    // switches are at place 1 of their table, values at place 2
+    ("switches, then a value", Ok(STREAM_BITS - 1 + 2), || {
+        switches("1")
+    }),
+    ("a beat of nothing but switches", Err(12), || {
         beat_of_switches("")
     }),
-    ("a beat of switches, then a value", 0, || {
-        beat_of_switches("1")
-    }),
-    ("switches through eight tables", 0, switches_through_all),
-    ("codes of 48 bits, the last of 64", 0, longest_codes),
-    ("codes that match nothing but at their end", 12, || {
+    (
+        "a beat of switches, then a value",
+        Ok(STREAM_BITS - 1 + 2 + 2),
+        || beat_of_switches("1"),
+    ),
+    (
+        "switches through eight tables",
+        Ok(STREAM_BITS - 2 + 2),
+        switches_through_all,
+    ),
+    (
+        "codes of 48 bits, the last of 64",
+        Ok(64 * LONGEST_CODES),
+        longest_codes,
+    ),
+    ("codes that match nothing but at their end", Err(12), || {
         nearly_a_code()
     }),
-    ("the last sample numbers", 0, last_numbers),
+    // 65,536 times 0, and a beat of 1 -1 2 -2 3 -3 0 0 1 1
+    (
+        "the last sample numbers",
+        Ok(65_536 + 2 + 3 + 4 + 5 + 6 + 7 + 1 + 1 + 2 + 2),
+        last_numbers,
+    ),
+    ("the busiest lead", Ok(BUSIEST), || with(&busiest())),
+    (
+        "the busiest lead, with a beat of the same kind",
+        Ok(2 * BUSIEST),
+        busiest_with_beat,
+    ),
 ];
 
 /// How many there are.
@@ -176,6 +204,14 @@ fn seven_bits(number: i16) -> String {
     format!("1{number:06b}")
 }
 
+/// The structures compared for [`mixed`]. A zero is at place 64, so 65,536 of them take 64 times as many. A switch takes 1
+/// more. A pair of values takes 62 less than two zeros, 66, as the two are as far from place 33, before it and behind it.
+const fn compared_for_mixed(every: u32) -> u32 {
+    let turns = 65_536 / every;
+    let (switches, pairs) = (turns / 8, 3 * turns / 8);
+    64 * 65_536 + switches - 62 * pairs
+}
+
 /// 65,536 values, all 0 but for a switch or a pair of other values that cancels out, once in twice `every` values.
 fn mixed(every: usize) -> String {
     let mut letters = String::new();
@@ -194,7 +230,7 @@ fn mixed(every: usize) -> String {
 }
 
 /// The bits of the longest stream.
-const STREAM_BITS: usize = 8 * 65_535;
+const STREAM_BITS: u32 = 8 * 65_535;
 
 /// One sample: a stream as long as can be of one-bit switches to the same table, with these bits at its end.
 fn switches(end: &str) -> Vec<u8> {
@@ -206,7 +242,8 @@ fn switching() -> Vec<u8> {
 }
 
 fn all_switches(end: &str) -> Vec<u8> {
-    bits(&format!("{}{end}", "0".repeat(STREAM_BITS - end.len())))
+    let switches = STREAM_BITS as usize - end.len();
+    bits(&format!("{}{end}", "0".repeat(switches)))
 }
 
 /// The same in the beat's stream, the beat having one sample.
@@ -235,17 +272,46 @@ fn switches_through_all() -> Vec<u8> {
     with(&leads(1, 1, tables, 1, all_switches("10")))
 }
 
+/// The structures compared for the busiest lead that there can be: 64 for each bit but the last two, as each of them is
+/// a code at place 64. More cannot be. There are 65,536 values and eight tables at most, so a stream this long comes back to a
+/// table by switches. What ends that is another code of a table whose switch has one bit and place 64: it has two bits or more,
+/// and place 63 or less.
+const BUSIEST: u32 = 64 * (STREAM_BITS - 2) + 63;
+
+/// One sample: a stream as long as can be of one-bit switches to the same table, which are last of 64 structures, then a value
+/// of two bits, which is last but one.
+fn busiest() -> Rhythm {
+    let mut codes: Vec<Code> = (0..62).map(|k| value(format!("11{k:06b}"), k)).collect();
+    codes.extend([value("10", 5), switch("0", 1)]);
+    leads(1, 1, tables(&[codes]), 0, all_switches("10"))
+}
+
+/// The same with a beat of one sample, whose stream is as the lead's.
+fn busiest_with_beat() -> Vec<u8> {
+    let mut rhythm = busiest();
+    rhythm.flags = 1;
+    rhythm.beat = Some(Beat {
+        length: 2,
+        fiducial: 1,
+        qrs: vec![zone(1, 1, 1)],
+        stored: rhythm.stored.clone(),
+    });
+    with(&rhythm)
+}
+
+/// As many codes of 48 bits as fit a stream.
+const LONGEST_CODES: u32 = STREAM_BITS / 48;
+
 /// Every value has a prefix of 32 bits and a remainder of 16, and is last in its table.
 fn longest_codes() -> Vec<u8> {
     let prefix = |k: usize| format!("{k:032b}");
     let mut codes: Vec<Code> = (1..64).map(|k| value(prefix(k), k as i16)).collect();
     codes.push(remainder(prefix(0), 16));
     let tables = tables(&vec![codes; 8]);
-    let count = STREAM_BITS / 48;
-    let stream: String = (0..count)
+    let stream: String = (0..LONGEST_CODES)
         .map(|n| format!("{}{:016b}", prefix(0), (n * 31) % 65_536))
         .collect();
-    with(&leads(1, count as u32, tables, 0, bits(&stream)))
+    with(&leads(1, LONGEST_CODES, tables, 0, bits(&stream)))
 }
 
 /// 64 prefixes of 32 bits, and a stream that goes along with them for 31.
@@ -290,7 +356,7 @@ fn last_numbers() -> Vec<u8> {
 
 #[cfg(test)]
 mod tests {
-    use super::all;
+    use super::{all, ALL};
 
     /// The judge agrees with what is written down, and the bounds are reached.
     #[test]
@@ -298,8 +364,11 @@ mod tests {
         for extreme in all() {
             let room = scp::SAMPLES_MAX;
             let read = judge::read_lead(&extreme.record, 1, room, room);
-            let number = read.map_or_else(|refused| refused.number, |_| 0);
-            assert_eq!(number, extreme.read, "{}", extreme.name);
+            let bound = read.as_ref().map_or(0, |lead| 64 * lead.bits);
+            let compared = read.map(|lead| lead.compared);
+            let answer = compared.map_err(|refused| refused.number);
+            assert_eq!(answer, extreme.read, "{}", extreme.name);
+            assert!(answer.unwrap_or(0) <= bound, "{}", extreme.name);
         }
         let bounds = all().find(|extreme| extreme.name == "all bounds at once");
         let record = bounds.unwrap().record;
@@ -309,5 +378,18 @@ mod tests {
         assert_eq!((lead.leads, lead.last), (32, 65_536));
         assert!(judge::read_lead(&record, 32, 65_536, 65_536).is_ok());
         assert!(judge::read_lead(&record, 32, 65_536, 65_535).is_err());
+    }
+
+    /// The numbers themselves, where they are worked out above.
+    #[test]
+    fn structures_compared() {
+        let compared = |name| ALL.iter().find(|extreme| extreme.0 == name).unwrap().1;
+        assert_eq!(compared("all bounds at once"), Ok(8_104_448));
+        assert_eq!(compared("switches, then a value"), Ok(524_281));
+        assert_eq!(compared("codes of 48 bits, the last of 64"), Ok(699_008));
+        assert_eq!(compared("the last sample numbers"), Ok(65_569));
+        assert_eq!(compared("the busiest lead"), Ok(64 * 524_280 - 65));
+        let with_beat = compared("the busiest lead, with a beat of the same kind");
+        assert_eq!(with_beat, Ok(67_107_710));
     }
 }

@@ -19,6 +19,8 @@ const FAR: [usize; 5] = [256, 257, 65_537, (1 << 32) + 1, usize::MAX];
 const NO_ROWS: [u8; 6] = [0, 10, 11, 14, 17, 255];
 /// A record of more bytes is asked for fewer places, as each call judges all of them.
 const LONG: usize = 1536;
+/// The most structures that are compared for a bit of a lead's codes: as many as a table has.
+const MOST_A_BIT: u32 = 64;
 
 /// Makes the calls on leads, by the library and by the judge.
 pub fn compare(record: &[u8], rng: &mut Rng, tally: &mut Tally) -> Result<(), Difference> {
@@ -183,7 +185,12 @@ fn read_as_judged(
     };
     tally.answer(call, lead.refusal);
     tally.samples(samples);
-    Ok(())
+    tally.compared.count(call, lead.compared);
+    let (compared, bits) = (lead.compared, judged.map_or(0, |read| read.bits));
+    hold(
+        compared <= MOST_A_BIT * bits,
+        &format!("{name}: {compared} structures compared for {bits} bits"),
+    )
 }
 
 /// The outcome that is expected.
@@ -206,6 +213,7 @@ fn right(judged: &Result<judge::Lead, Refused>) -> Right<'_, raw::ScpLead, i16> 
                 interval: read.interval,
                 first: read.first,
                 count: read.samples.len() as u32,
+                compared: read.compared,
             },
             out: &read.samples,
             cleared: read.work_cleared,
@@ -240,6 +248,7 @@ fn wrapper(record: &[u8], place: usize) -> Result<(), Difference> {
     if let (Ok((lead, samples)), Ok(judged)) = (&read, &judged) {
         same("samples", samples, &judged.samples)?;
         same("samples", lead.count, samples.len())?;
+        same("samples, compared", lead.compared, judged.compared)?;
         let all = (lead.id, lead.flags, lead.step, lead.interval, lead.first);
         let judged = (
             judged.id,

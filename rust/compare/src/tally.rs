@@ -46,6 +46,19 @@ pub enum Call {
     IndexMerge,
 }
 
+/// Leads that were read by comparing structures of code tables.
+#[derive(Clone, Copy, Debug, Default, PartialEq, Eq)]
+pub struct Compared {
+    /// How many.
+    pub leads: u64,
+    /// Those with a beat, whose stream counts too.
+    pub with_beat: u64,
+    /// The structures compared for all of them.
+    pub structures: u64,
+    /// The most of them for one lead.
+    pub most: u32,
+}
+
 /// Entries that were put into an index, and where.
 #[derive(Clone, Copy, Debug, Default, PartialEq, Eq)]
 pub struct Put {
@@ -89,6 +102,8 @@ pub struct Tally {
     inputs: BTreeMap<&'static str, u64>,
     answers: BTreeMap<(Call, u8), u64>,
     samples: u64,
+    /// The leads that were read by comparing structures.
+    pub compared: Compared,
     every_place: u64,
     to_encode: u64,
     bits: u64,
@@ -96,6 +111,18 @@ pub struct Tally {
     pub built: Built,
     /// The indexes that were merged.
     pub merged: Merged,
+}
+
+impl Compared {
+    /// Counts the structures compared in reading a lead by a call, if there were any.
+    pub fn count(&mut self, call: Call, structures: u32) {
+        if structures > 0 {
+            self.leads += 1;
+            self.with_beat += u64::from(call == Call::ReadLeadWithBeat);
+            self.structures += u64::from(structures);
+            self.most = self.most.max(structures);
+        }
+    }
 }
 
 impl Tally {
@@ -142,6 +169,16 @@ impl Tally {
     }
 }
 
+impl fmt::Display for Compared {
+    fn fmt(&self, f: &mut fmt::Formatter<'_>) -> fmt::Result {
+        write!(
+            f,
+            "{} leads read by comparing structures ({} with a beat), {} of these in all, {} at most",
+            self.leads, self.with_beat, self.structures, self.most
+        )
+    }
+}
+
 impl fmt::Display for Put {
     fn fmt(&self, f: &mut fmt::Formatter<'_>) -> fmt::Result {
         write!(
@@ -167,6 +204,7 @@ impl fmt::Display for Tally {
         let all: u64 = self.answers.values().sum();
         let (samples, records) = (self.samples, self.every_place);
         writeln!(f, "compare: {records} records asked for every place")?;
+        writeln!(f, "compare: {}", self.compared)?;
         writeln!(
             f,
             "compare: {} leads to encode, streams of {} bits in all",

@@ -15,6 +15,8 @@ const SETS: u64 = 40_000;
 const JOBS: u64 = 10_240;
 /// At least this many of the sets have each thing that makes the choice of a stream hard.
 const ENOUGH: u64 = 10_000;
+/// At least this many leads are read by comparing structures, as many with a beat besides, and as many without Section 2.
+const ENOUGH_LEADS: u64 = 10_000;
 /// At least this many entries are put where the order of an index is easily got wrong.
 const ENOUGH_ENTRIES: u64 = 1_000;
 /// At least this many pairs to merge have an empty index, as many a much longer one, and as many indexes are made of runs.
@@ -49,6 +51,13 @@ fn not_met(tally: &Tally) -> Option<String> {
         if !missing.is_empty() {
             return Some(format!("{call:?} never answered {missing:?}"));
         }
+    }
+    let compared = tally.compared;
+    let read = tally.times(Call::ReadLead, 0) + tally.times(Call::ReadLeadWithBeat, 0);
+    let plain = compared.leads - compared.with_beat;
+    let special = [plain, compared.with_beat, read - compared.leads];
+    if special.iter().any(|&count| count < ENOUGH_LEADS) {
+        return Some("reading: too few leads of some kind".to_string());
     }
     let (built, merged) = (tally.built, tally.merged);
     for put in [built.put, merged.put] {

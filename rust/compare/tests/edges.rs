@@ -18,10 +18,17 @@ fn each_edge_is_on_its_side() {
         if let Some(expected) = edge.read {
             let room = scp::SAMPLES_MAX;
             let judged = judge::read_lead(&record, 1, room, room);
+            let by_judge = judged.as_ref().map(|lead| lead.compared).ok();
             let judged = judged.map_or_else(|refused| refused.number, |_| 0);
             assert_eq!(judged, expected, "{name}, read by the judge");
-            let read = scp::samples(&record, 1).map_or_else(scp::Refusal::number, |_| 0);
+            let read = scp::samples(&record, 1);
+            let by_library = read.as_ref().map(|(lead, _)| lead.compared).ok();
+            let read = read.map_or_else(scp::Refusal::number, |_| 0);
             assert_eq!(read, expected, "{name}, read by the library");
+            if edge.compared.is_some() {
+                assert_eq!(by_judge, edge.compared, "{name}, by the judge");
+                assert_eq!(by_library, edge.compared, "{name}, by the library");
+            }
         }
     }
 }

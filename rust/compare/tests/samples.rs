@@ -102,11 +102,21 @@ fn padded_leads_are_those_of_the_beat() {
     let (padded, beat) = (&samples["padded.scp"], &samples["beat.scp"]);
     let room = scp::SAMPLES_MAX;
     for place in [1, 2] {
-        let read = scp::samples(padded, place);
-        assert!(read.is_ok(), "lead {place}");
-        assert_eq!(read, scp::samples(beat, place), "lead {place}");
+        let read = [padded, beat].map(|record| scp::samples(record, place).unwrap());
+        let [(one, samples), (other, as_unpadded)] = read;
+        assert_eq!(samples, as_unpadded, "lead {place}");
+        // other differences are stored, and so other structures are compared
+        let compared = other.compared;
+        assert_eq!(scp::Lead { compared, ..one }, other, "lead {place}");
         let judged = [padded, beat].map(|record| judge::read_lead(record, place, room, room));
-        assert_eq!(judged[0], judged[1], "lead {place}");
+        let [one, other] = judged.map(Result::unwrap);
+        let (compared, bits) = (other.compared, other.bits);
+        let alike = judge::Lead {
+            compared,
+            bits,
+            ..one
+        };
+        assert_eq!(alike, other, "lead {place}");
     }
     for id in [5, 6] {
         let pointer = judge::open(padded).unwrap()[id];

@@ -221,8 +221,11 @@ fn large_indexes_fit_a_small_stack() {
 struct Leads {
     broken: Option<u8>,
     entry: Result<(u8, u32, u32, u32), u8>,
-    samples: [Result<Vec<i16>, u8>; 3],
+    read: [Result<ReadLead, u8>; 3],
 }
+
+/// How many structures were compared, and the samples.
+type ReadLead = (u32, Vec<i16>);
 
 /// The first lead, the last that there can be, and one that there cannot be.
 const PLACES: [usize; 3] = [1, 32, 33];
@@ -234,9 +237,9 @@ fn library_leads(record: &[u8], rooms: &mut [Vec<i16>; 2]) -> Leads {
         entry: scp::lead(record, 1)
             .map(|entry| (entry.id, entry.first, entry.last, entry.bytes as u32))
             .map_err(Refusal::number),
-        samples: PLACES.map(|place| {
+        read: PLACES.map(|place| {
             let lead = scp::read_lead(record, place, out, work).map_err(Refusal::number)?;
-            Ok(out[..lead.count].to_vec())
+            Ok((lead.compared, out[..lead.count].to_vec()))
         }),
     }
 }
@@ -246,9 +249,9 @@ fn judge_leads(record: &[u8]) -> Leads {
     Leads {
         broken: (row::LENGTH..=row::AGREEMENT).find(|&row| judge::breaks(record, row)),
         entry: judge::lead(record, 1).map(|entry| (entry.id, entry.first, entry.last, entry.bytes)),
-        samples: PLACES.map(|place| {
+        read: PLACES.map(|place| {
             let read = judge::read_lead(record, place, room, room);
-            read.map(|lead| lead.samples)
+            read.map(|lead| (lead.compared, lead.samples))
                 .map_err(|refused| refused.number)
         }),
     }
@@ -272,9 +275,7 @@ fn the_extremes_fit_a_small_stack() {
     let records: Vec<_> = extremes::all().map(|extreme| extreme.record).collect();
     let leads = leads_on_a_small_stack(records.clone());
     for ((leads, record), extreme) in leads.iter().zip(&records).zip(extremes::all()) {
-        let read = leads.samples[0]
-            .as_ref()
-            .map_or_else(|number| *number, |_| 0);
+        let read = leads.read[0].clone().map(|(compared, _)| compared);
         assert_eq!(read, extreme.read, "{}", extreme.name);
         assert!(*leads == judge_leads(record), "{}", extreme.name);
     }

@@ -397,7 +397,7 @@ mod tests {
                 let bytes = put.bytes();
                 let read =
                     crate::reading::read_stream(&bytes, tables.as_ref(), order, samples.len());
-                assert_eq!(read.ok(), Some(samples.clone()));
+                assert_eq!(read.expect("it reads").samples, samples);
             }
         }
     }

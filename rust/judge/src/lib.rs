@@ -1,5 +1,5 @@
-//! An independent reading of document 01, as Q-1 of document 02 changes it, and of Q-13's index, to
-//! compare the proved library with.
+//! An independent reading of document 01, as of document 02 change it, and of Q-13's
+//! index, to compare the proved library with.
 //!
 //! Each call judges the bytes it is given by itself and answers what the rules say, or the number
 //! of the refusal. A refusal can be explained: [`lead_findings`], [`job_findings`] and

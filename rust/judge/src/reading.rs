@@ -40,6 +40,10 @@ pub struct Lead {
     pub interval: u16,
     pub first: u32,
     pub samples: Vec<i16>,
+    /// The structures compared in reading it, the beat's stream included (02, Q-6).
+    pub compared: u32,
+    /// The bits of the codes that were read, the beat's included.
+    pub bits: u32,
     /// Whether the work space lent is zeros; otherwise it is untouched.
     pub work_cleared: bool,
 }
@@ -76,7 +80,7 @@ pub fn lead(record: &[u8], place: usize) -> Result<Entry, u8> {
 /// can be read.
 pub fn lead_findings(record: &[u8], place: usize) -> Vec<Finding> {
     match find(record, place) {
-        Ok(found) => samples(record, &found).err().into_iter().collect(),
+        Ok(found) => rebuilt(record, &found).err().into_iter().collect(),
         Err(found) => found,
     }
 }
@@ -117,7 +121,7 @@ pub fn read_lead(
         return Err(Refused::untouched(row::ROOM));
     }
     let work_cleared = found.rhythm.beat.is_some();
-    let samples = samples(record, &found).map_err(|finding| Refused {
+    let read = rebuilt(record, &found).map_err(|finding| Refused {
         number: finding.row,
         work_cleared,
     })?;
@@ -127,13 +131,16 @@ pub fn read_lead(
         step: found.stored.step,
         interval: found.stored.interval,
         first: found.span.first,
-        samples,
+        samples: read.samples,
+        compared: read.compared as u32,
+        bits: read.bits as u32,
         work_cleared,
     })
 }
 
-/// The beat, then the residual, then the sums; what fails first is the refusal.
-pub fn samples(record: &[u8], found: &Found) -> Result<Vec<i16>, Finding> {
+/// The beat, then the residual, then the sums; what fails first is the refusal. Each stream is read
+/// once and counts once, whatever zones use the beat.
+fn rebuilt(record: &[u8], found: &Found) -> Result<Read, Finding> {
     let tables = data_of(record, 2).and_then(|data| tables(data, SPARE).ok());
     let lead = found.at + 1;
     let residual = Stream {
@@ -144,7 +151,7 @@ pub fn samples(record: &[u8], found: &Found) -> Result<Vec<i16>, Finding> {
         lead,
     };
     let Some(beat) = &found.rhythm.beat else {
-        return residual.samples(tables.as_ref(), found.span.count());
+        return residual.read(tables.as_ref(), found.span.count());
     };
     let subtracted = Stream {
         bytes: beat.stored.streams[found.at],
@@ -153,9 +160,13 @@ pub fn samples(record: &[u8], found: &Found) -> Result<Vec<i16>, Finding> {
         section: 5,
         lead,
     };
-    let subtracted = subtracted.samples(tables.as_ref(), beat.count)?;
-    let residual = residual.samples(tables.as_ref(), found.span.count())?;
-    add(beat, &subtracted, found, residual)
+    let subtracted = subtracted.read(tables.as_ref(), beat.count)?;
+    let residual = residual.read(tables.as_ref(), found.span.count())?;
+    Ok(Read {
+        samples: add(beat, &subtracted.samples, found, residual.samples)?,
+        compared: subtracted.compared + residual.compared,
+        bits: subtracted.bits + residual.bits,
+    })
 }
 
 /// A lead's stream, with what it takes to read it and to say where it is wrong.
@@ -170,7 +181,7 @@ struct Stream<'a> {
 }
 
 impl Stream<'_> {
-    fn samples(&self, tables: Option<&Tables>, count: usize) -> Result<Vec<i16>, Finding> {
+    fn read(&self, tables: Option<&Tables>, count: usize) -> Result<Read, Finding> {
         let read = read_stream(self.bytes.slice(), tables, self.order, count);
         read.map_err(|wrong| self.finding(wrong))
     }
@@ -223,6 +234,16 @@ impl Wrong {
 /// it).
 pub const MOST_LEFT_OVER: usize = 15;
 
+/// The samples that codes are read to, and how much there was to read.
+#[derive(Clone, Debug)]
+pub struct Read {
+    pub samples: Vec<i16>,
+    /// The structures compared for all codes, switches included; 0 without Section 2 (02, Q-6).
+    pub compared: usize,
+    /// The bits of all codes. Those left over are none of them.
+    pub bits: usize,
+}
+
 /// Reads `count` samples out of a stream, value by value: 12 where a value cannot be read, 13 where
 /// its sample has more than 16 bits, and 14 where more than [`MOST_LEFT_OVER`] bits are left in the
 /// end.
@@ -231,7 +252,7 @@ pub fn read_stream(
     tables: Option<&Tables>,
     order: u8,
     count: usize,
-) -> Result<Vec<i16>, Wrong> {
+) -> Result<Read, Wrong> {
     let mut values = Values::new(stream, tables);
     let mut samples = Vec::new();
     for at in 0..count {
@@ -245,7 +266,11 @@ pub fn read_stream(
     }
     let (left, bits) = (values.bits_left(), values.bits());
     match left {
-        0..=MOST_LEFT_OVER => Ok(samples),
+        0..=MOST_LEFT_OVER => Ok(Read {
+            samples,
+            compared: values.compared(),
+            bits: bits - left,
+        }),
         _ => Err(Wrong {
             at: count,
             bit: Some(bits - left + 1),
@@ -302,7 +327,7 @@ impl Reader {
     /// Reads `count` samples out of a stream, or answers 12 to 14.
     pub fn samples(&self, stream: &[u8], order: u8, count: usize) -> Result<Vec<i16>, u8> {
         let read = read_stream(stream, self.tables.as_ref(), order, count);
-        read.map_err(|wrong| wrong.row())
+        read.map(|read| read.samples).map_err(|wrong| wrong.row())
     }
 
     /// The bits that are left of a stream after these values; `None` if it reads to others.

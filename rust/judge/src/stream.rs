@@ -41,14 +41,15 @@ impl<'a> Bits<'a> {
         Some(value)
     }
 
-    /// The meaning of the next code of this table, which has this number.
-    fn code(&mut self, table: &[Structure], number: usize) -> Result<Meaning, NoValue> {
+    /// The meaning of the next code of this table, which has this number, and how many structures
+    /// were compared: the place of the one that matches, from 1 (02, Q-6).
+    fn code(&mut self, table: &[Structure], number: usize) -> Result<(Meaning, usize), NoValue> {
         let (next, left) = (self.next_32(), self.left());
-        let mut codes = table.iter();
-        match codes.find(|code| code.matches(next, left)) {
-            Some(code) => {
+        let mut codes = table.iter().zip(1..);
+        match codes.find(|(code, _)| code.matches(next, left)) {
+            Some((code, place)) => {
                 self.skip(code.prefix_bits);
-                Ok(code.meaning)
+                Ok((code.meaning, place))
             }
             None if table.iter().any(|code| code.goes_on(next, left)) => Err(self.ends()),
             None => Err(NoValue::NoCode {
@@ -93,6 +94,7 @@ pub struct Values<'a> {
     tables: Option<&'a Tables>,
     /// The current table, counted from 1.
     table: usize,
+    compared: usize,
 }
 
 impl<'a> Values<'a> {
@@ -102,6 +104,7 @@ impl<'a> Values<'a> {
             bits: Bits::new(stream),
             tables,
             table: 1,
+            compared: 0,
         }
     }
 
@@ -122,15 +125,21 @@ impl<'a> Values<'a> {
         self.bits.bits()
     }
 
+    /// The structures compared for all codes so far, switches included; 0 without Section 2 (02,
+    ///
+    pub fn compared(&self) -> usize {
+        self.compared
+    }
+
     /// Takes codes until one is a value; switches change the table on the way.
     fn next_by(&mut self, tables: &Tables) -> Result<i32, NoValue> {
         loop {
             let table = self.table.checked_sub(1).and_then(|at| tables.get(at));
             let ends = self.bits.ends();
-            match self
-                .bits
-                .code(table.map_or(&[], Vec::as_slice), self.table)?
-            {
+            let codes = table.map_or(&[][..], Vec::as_slice);
+            let (meaning, place) = self.bits.code(codes, self.table)?;
+            self.compared += place;
+            match meaning {
                 Meaning::Value(value) => return Ok(value.into()),
                 Meaning::Remainder(bits) => return self.bits.signed(bits).ok_or(ends),
                 Meaning::Switch(table) => self.table = table,
@@ -190,7 +199,7 @@ impl Put {
 mod tests {
     use super::{NoValue, Put, Values};
     use crate::tables::default_table;
-    use crate::vectors::{examples, tables_named};
+    use crate::vectors::{examples, hex, tables_named};
 
     #[test]
     fn streams_read_to_their_values() {
@@ -214,6 +223,56 @@ mod tests {
         assert_eq!(put.bits(), 71);
         let first = [0xFF, 0x83, 0xBF, 0xE1, 0x27, 0xBF, 0xF7, 0xBD];
         assert_eq!(put.bytes()[..8], first);
+    }
+
+    /// The places of P5's codes, value by value. With the eleventh value is the switch to table 2,
+    /// at place 6, and with the sixteenth the one back, at place 5.
+    #[test]
+    fn p5_structures_compared() {
+        let (tables, stream) = (
+            tables_named("example"),
+            hex("99 5E 06 F0 48 DE 80 FD 01 BD 36 C0"),
+        );
+        let read = [
+            1, 2, -1, 0, 3, 0, 4, 1, 0, -2, 0, 15, -1, 0, 13, 0, 1, -2, -1, 1,
+        ];
+        let [there, back] = [6 + 2, 5 + 1];
+        let places = [
+            2, 4, 3, 1, 7, 1, 7, 2, 1, 5, there, 1, 4, 2, 1, back, 2, 5, 3, 2,
+        ];
+        let mut values = Values::new(&stream, Some(&tables));
+        let mut sum = 0;
+        for (value, place) in read.into_iter().zip(places) {
+            assert_eq!(values.next(), Ok(value));
+            sum += place;
+            assert_eq!(values.compared(), sum);
+        }
+        assert_eq!((sum, values.bits() - values.bits_left()), (67, 92));
+    }
+
+    /// 0 is the first structure, k the one of place 2k and -k that of 2k + 1; remainders are last.
+    #[test]
+    fn structures_compared_in_the_default_table() {
+        let tables = vec![default_table()];
+        let near = (1..=8).flat_map(|k| [(k, 2 * k as usize), (-k, 2 * k as usize + 1)]);
+        let far = [
+            (0, 1),
+            (9, 18),
+            (-9, 18),
+            (127, 18),
+            (-128, 18),
+            (128, 19),
+            (-129, 19),
+            (-32_768, 19),
+        ];
+        for (value, place) in near.chain(far) {
+            let mut codes = tables[0].iter();
+            let mut put = Put::default();
+            put.code(codes.find(|code| code.gives(value)).expect("a code"), value);
+            let bytes = put.bytes();
+            let mut values = Values::new(&bytes, Some(&tables));
+            assert_eq!((values.next(), values.compared()), (Ok(value), place));
+        }
     }
 
     #[test]
@@ -243,5 +302,6 @@ mod tests {
         assert_eq!(values.next(), Ok(-1000));
         assert_eq!(values.next(), Ok(-32_768));
         assert_eq!(values.next(), Err(NoValue::Ends { bit: 49, bits: 56 }));
+        assert_eq!(values.compared(), 0);
     }
 }

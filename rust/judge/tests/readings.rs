@@ -94,6 +94,12 @@ impl Record {
         read.map(|lead| lead.samples)
             .map_err(|refused| refused.number)
     }
+
+    /// The structures compared in reading this lead, and the bits of its codes.
+    fn compared(&self, place: usize) -> Option<(u32, u32)> {
+        let read = read_lead(&self.bytes(), place, 3, 2).ok()?;
+        Some((read.compared, read.bits))
+    }
 }
 
 /// Identifier 7, and the other fields that must be present.
@@ -481,4 +487,86 @@ fn residuals_and_sums_have_16_bits_of_their_own() {
     residual.data(5)[10..12].copy_from_slice(&(-9i16).to_le_bytes());
     residual.data(6)[12..14].copy_from_slice(&32_767i16.to_le_bytes());
     assert_eq!(residual.read(1), Err(row::SAMPLE));
+}
+
+/// By the default table 1 1 1 takes the second structure three times, and 2 1 0 the fourth, the
+/// second and the first. Bits left over are no codes. Without Section 2 nothing is compared (02,
+///
+#[test]
+fn structures_compared() {
+    let by_table = Record::plain().with(2, &DEFAULT_TABLE);
+    for (stream, compared) in [
+        (&[0x92, 0][..], (6, 9)),
+        (&[0x92, 0x7F, 0xFF], (6, 9)),
+        (&[0xC8], (7, 8)),
+        (&[0xC8, 0xFF], (7, 8)),
+    ] {
+        let record = by_table.clone().stored(6, [stream, &[0x92, 0]]);
+        assert_eq!(record.compared(1), Some(compared), "{stream:X?}");
+        assert_eq!(record.compared(2), Some((6, 9)), "{stream:X?}");
+    }
+    assert_eq!(Record::plain().compared(1), Some((0, 48)));
+    assert_eq!(Record::beaten().compared(1), Some((0, 80)));
+}
+
+/// The beat's stream counts once with the residual's, whether no zone uses it, one or two. 3 2 takes
+/// the sixth and the fourth structure, and the residual is 1 1 1.
+#[test]
+fn structures_compared_with_a_beat() {
+    let by_table = Record::beaten().with(2, &DEFAULT_TABLE);
+    let record = by_table.stored(5, [&[0xE6, 0]; 2]);
+    let record = record.stored(6, [&[0x92, 0], &[0xC8]]);
+    let mut two_zones = record.clone().changed(4, 4, 2).changed(4, 6 + 10, 2);
+    two_zones
+        .data(4)
+        .extend([0, 0, 3, 0, 0, 0, 3, 0, 0, 0, 3, 0, 0, 0]);
+    for (record, read) in [
+        (record.clone().changed(4, 4, 0), vec![1, 1, 1]),
+        (record, vec![1, 4, 3]),
+        (two_zones, vec![1, 4, 4]),
+    ] {
+        assert_eq!(record.read(1), Ok(read));
+        assert_eq!(record.compared(1), Some((10 + 6, 18)));
+        assert_eq!(record.compared(2), Some((10 + 7, 17)));
+    }
+}
+
+/// Section 2's data with one table of 64 structures: 62 of 8 bits that begin with 11, then the value
+/// 7 as 10, and last what the bit 0 alone means: its mode and base value.
+fn full_table(mode: u8, base_value: u8) -> Vec<u8> {
+    let eight_bits = |k| [8, 8, 1, k, 0, k << 2 | 3, 0, 0, 0];
+    let mut data = vec![1, 0, 64, 0];
+    data.extend((0..62).flat_map(eight_bits));
+    data.extend([2, 2, 1, 7, 0, 1, 0, 0, 0]);
+    data.extend([1, 1, mode, base_value, 0, 0, 0, 0, 0]);
+    data
+}
+
+/// At most 64 times the bits of the codes are compared: as many where each code is one bit at place
+/// 64, and nearly as many where a stream as long as can be has switches of this kind to their own
+/// table, then two or three values of two bits at place 63 each.
+#[test]
+fn at_most_64_times_the_bits_are_compared() {
+    let zeros = Record::plain().with(2, &full_table(1, 5));
+    let zeros = zeros.stored(6, [&[0]; 2]);
+    assert_eq!(zeros.read(1), Ok(vec![5, 5, 5]));
+    assert_eq!(zeros.compared(1), Some((64 * 3, 3)));
+
+    let switches = |end| [vec![0; 65_534], vec![end]].concat();
+    let (two, three) = (switches(0b1010), switches(0b10_1010));
+    let switching = full_table(0, 1);
+    let bits = 8 * 65_535;
+    let busy = Record::plain().with(2, &switching).stored(6, [&three, &[]]);
+    let of_three = 64 * (bits - 6) + 3 * 63;
+    assert_eq!(of_three, 33_553_725);
+    assert_eq!(busy.read(1), Ok(vec![7, 7, 7]));
+    assert_eq!(busy.compared(1), Some((of_three, bits)));
+
+    let beaten = Record::beaten().with(2, &switching);
+    let busy = beaten.stored(5, [&two, &[]]).stored(6, [&three, &[]]);
+    let of_two = 64 * (bits - 4) + 2 * 63;
+    assert_eq!(of_two + of_three, 67_107_515);
+    assert_eq!(busy.read(1), Ok(vec![7, 14, 14]));
+    assert_eq!(busy.compared(1), Some((of_two + of_three, 2 * bits)));
+    assert_eq!(busy.read(2), Err(row::CODE));
 }

@@ -15,6 +15,8 @@ struct Known {
     /// The samples of the beat, 0 if none was subtracted.
     beat: usize,
     leads: Vec<KnownLead>,
+    /// The structures compared in reading each lead.
+    compared: Vec<u32>,
     bytes: Vec<u8>,
 }
 
@@ -60,6 +62,7 @@ impl Known {
             "order" => self.order = number(rest),
             "beat" => self.beat = number(rest),
             "lead" => self.take_lead(rest),
+            "compared" => self.compared = rest.split_whitespace().map(number).collect(),
             "hex" => self.bytes.extend(hex(rest)),
             _ => {}
         }
@@ -118,6 +121,7 @@ fn their_leads_read() {
             assert_eq!(read.flags, record.flags);
             assert_eq!((read.step, read.interval), (record.step, record.interval));
             assert_eq!(read.work_cleared, record.beat > 0);
+            assert_eq!(read.compared, record.compared[at], "{}", record.name);
             let entry = lead(&record.bytes, at + 1).expect(&record.name);
             assert_eq!(entry.order, record.order);
             assert_eq!(entry.leads as usize, record.leads.len());

@@ -1,7 +1,7 @@
 //! No bytes and no numbers stop a call from ending, and calls agree with each other.
 
 use judge::make::{self, Rng};
-use judge::{breaks, field, lead, open, read_lead, row, walk_start, walk_step};
+use judge::{breaks, field, lead, open, read_lead, row, walk_start, walk_step, Lead};
 use judge::{index_add, index_entry, index_find, index_merge, index_step};
 
 /// Every call on these bytes.
@@ -14,19 +14,7 @@ fn call_all(rng: &mut Rng, bytes: &[u8]) {
         breaks(bytes, row);
     }
     for place in [0, 1, 2, 33, usize::MAX] {
-        let entry = lead(bytes, place);
-        let read = read_lead(bytes, place, 70_000, 70_000);
-        match entry {
-            Err(number) => assert_eq!(read.map_err(|refused| refused.number), Err(number)),
-            Ok(entry) => {
-                let refused = read.err().map(|refused| refused.number);
-                assert!(refused.is_none_or(|number| (12..=14).contains(&number)));
-                assert!(entry.first <= entry.last && place <= entry.leads as usize);
-                let count = (entry.last - entry.first) as usize;
-                let short = read_lead(bytes, place, count, 70_000);
-                assert_eq!(short.map_err(|refused| refused.number), Err(row::ROOM));
-            }
-        }
+        call_lead(bytes, place);
     }
     for at in [
         0,
@@ -43,6 +31,26 @@ fn call_all(rng: &mut Rng, bytes: &[u8]) {
         assert!(step.is_none_or(|step| step.next <= bytes.len() && step.start == at + 5));
     }
     call_index(rng, bytes);
+}
+
+/// The calls on the lead at a place of these bytes. At most 64 structures a bit are compared (02,
+///
+fn call_lead(bytes: &[u8], place: usize) {
+    let entry = lead(bytes, place);
+    let read = read_lead(bytes, place, 70_000, 70_000);
+    match entry {
+        Err(number) => assert_eq!(read.map_err(|refused| refused.number), Err(number)),
+        Ok(entry) => {
+            let within = |lead: &Lead| lead.compared <= 64 * lead.bits;
+            assert!(read.as_ref().is_ok_and(within) || read.is_err());
+            let refused = read.err().map(|refused| refused.number);
+            assert!(refused.is_none_or(|number| (12..=14).contains(&number)));
+            assert!(entry.first <= entry.last && place <= entry.leads as usize);
+            let count = (entry.last - entry.first) as usize;
+            let short = read_lead(bytes, place, count, 70_000);
+            assert_eq!(short.map_err(|refused| refused.number), Err(row::ROOM));
+        }
+    }
 }
 
 /// The calls of the index on these bytes, as a record and as an index.

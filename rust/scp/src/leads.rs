@@ -27,6 +27,10 @@ pub struct Lead {
     pub first: u32,
     /// How many samples there are.
     pub count: usize,
+    /// How many code structures were compared: for each code that was read its structure's place in its table, from 1, all
+    /// of them added up. Switches count, and where a reference beat was subtracted its stream counts too, once. It is 0 in a
+    /// record without Section 2, and at most 64 times the bits of the codes.
+    pub compared: u32,
 }
 
 impl Lead {
@@ -90,6 +94,7 @@ pub fn read_lead(
         interval: lead.interval,
         first: lead.first,
         count: lead.count as usize,
+        compared: lead.compared,
     };
     Refusal::or(lead.refusal, answer)
 }

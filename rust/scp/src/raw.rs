@@ -65,6 +65,8 @@ pub struct ScpLead {
     pub first: u32,
     /// How many samples there are.
     pub count: u32,
+    /// How many code structures were compared.
+    pub compared: u32,
 }
 
 /// A record's description of a lead, its stream unread.

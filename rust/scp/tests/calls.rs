@@ -1,5 +1,6 @@
 //! The safe calls, on what can be worked out by hand. `compare` has the many inputs.
 
+use scp::raw::{self, ScpLead};
 use scp::{Coded, Entry, IndexEntry, Job, Lead, Refusal, Step, ENTRY_MAX, FIRST_FIELD};
 
 /// A file of `samples/`.
@@ -105,6 +106,7 @@ fn a_lead_is_read_into_the_room_lent() {
         interval: 2000,
         first: 1,
         count: 8,
+        compared: 0, // there is no Section 2
     };
     assert_eq!(lead, expected);
     assert_eq!(out, [10, 12, 13, 15, 18, 22, 20, 15, 77, 77]);
@@ -132,6 +134,74 @@ fn work_space_is_zeros_once_a_beat_is_read() {
     let refused = scp::read_lead(&record, 2, &mut out, &mut work);
     assert_eq!(refused.err(), Some(Refusal::SAMPLE));
     assert_eq!((work, out), ([0; 9], [7; 40]));
+}
+
+/// The structures compared in reading a sample's two leads.
+fn compared(name: &str) -> [u32; 2] {
+    let record = sample(name);
+    [1, 2].map(|place| scp::samples(&record, place).unwrap().0.compared)
+}
+
+/// The places of all codes' structures are added up, switches included. Table 1 has 0, 1, -1, 2, -2, a switch and a remainder,
+/// and table 2 a remainder, 0, 1, -1 and a switch.
+#[test]
+fn structures_compared_are_counted() {
+    let [there, back] = [6, 5];
+    let before = [2, 4, 3, 1, 7, 1, 7, 2, 1, 5];
+    let between = [2, 1, 4, 2, 1];
+    let after = [1, 2, 5, 3, 2];
+    let published = [&before[..], &[there], &between, &[back], &after].concat();
+    assert_eq!(published.iter().sum::<u32>(), 67);
+    // 15 15 0 -128 127 1 1 1, all by table 2
+    let by_table_2 = there + 1 + 1 + 2 + 1 + 1 + 3 * 3;
+    assert_eq!(compared("own-tables.scp"), [67, by_table_2]);
+    assert_eq!(compared("two-leads.scp"), [0, 0], "there is no Section 2");
+}
+
+/// The beat's stream counts once, though two zones of each lead use it, and padding counts for nothing. In the default table
+/// 0 is at place 1, k at 2k, -k at 2k + 1, and every other number of 8 bits at 18.
+#[test]
+fn structures_compared_include_the_beats() {
+    // 0 4 40 90 60 -20 -5 0, and 0 2 30 120 80 -10 -4 1
+    let beats = [1 + 8 + 4 * 18 + 11 + 1, 1 + 4 + 4 * 18 + 9 + 2];
+    // of -2 -1 0 1 2 over and over, 40 and 26 samples, the first differences: -2, then 1 four times and -4, over and over
+    let firsts = [5 + 32 * 2 + 7 * 9, 5 + 20 * 2 + 5 * 9];
+    // and the second ones: -2 -1, then 0 three times, -5 and 5, over and over
+    let seconds = [5 + 3 + 24 + 7 * 11 + 7 * 10, 5 + 3 + 15 + 5 * 11 + 4 * 10];
+    let with_beat = |residuals: [u32; 2]| [0, 1].map(|lead| beats[lead] + residuals[lead]);
+    assert_eq!(with_beat(firsts), [225, 178]);
+    assert_eq!(compared("beat.scp"), [225, 178]);
+    assert_eq!(with_beat(seconds), [272, 206]);
+    assert_eq!(compared("padded.scp"), [272, 206]);
+}
+
+/// However many codes were read before the fault: a refusal answers its number, and nothing else.
+#[test]
+fn refusals_have_no_structures_compared() {
+    assert_eq!(size_of::<ScpLead>(), 20);
+    for (name, place, out, refusal) in [
+        ("refused-12.scp", 2, 40, Refusal::CODE),
+        ("refused-13.scp", 2, 40, Refusal::SAMPLE),
+        ("refused-14.scp", 2, 40, Refusal::LEFT_OVER_BITS),
+        ("own-tables.scp", 1, 19, Refusal::ROOM),
+        ("own-tables.scp", 3, 40, Refusal::ABSENT),
+        ("refused-7.scp", 1, 40, Refusal::SECTION_2),
+    ] {
+        let read = raw::read_lead(&sample(name), place, &mut vec![0; out], &mut [0; 8]);
+        let nothing = ScpLead {
+            refusal: refusal.number(),
+            ..ScpLead::default()
+        };
+        assert_eq!(read, nothing, "{name}");
+    }
+    for (name, sound) in [
+        ("refused-12.scp", 67),
+        ("refused-13.scp", 225),
+        ("refused-14.scp", 67),
+    ] {
+        let (lead, _) = scp::samples(&sample(name), 1).unwrap();
+        assert_eq!(lead.compared, sound, "{name}, the other lead");
+    }
 }
 
 #[test]
@@ -380,7 +450,9 @@ fn a_record_is_put_into_the_room_lent() {
 
 #[test]
 fn what_is_written_is_read_back() {
-    for section2 in [DEFAULT_TABLE.to_vec(), Vec::new()] {
+    // 14 18 0 -4 -9 -1 5, and -5 7
+    let compared = [18 + 18 + 1 + 9 + 18 + 3 + 10, 11 + 14];
+    for (section2, compared) in [(DEFAULT_TABLE.to_vec(), compared), (Vec::new(), [0, 0])] {
         let job = Job {
             section2: &section2,
             ..JOB
@@ -395,6 +467,7 @@ fn what_is_written_is_read_back() {
         assert_eq!(samples, JOB.samples[7..]);
         assert_eq!((two.id, two.first), (2, u32::MAX - 1));
         assert_eq!((two.step, two.interval), (5000, 2000));
+        assert_eq!([one.compared, two.compared], compared);
         assert_eq!(scp::lead(&record, 2).unwrap().order, 2);
     }
 }

@@ -166,6 +166,13 @@ pub enum Command {
     /// beat was subtracted it is added back. A lead that is refused is shown with its
     /// refusal and nothing else, and does not stop the others.
     ///
+    /// Above the samples is how many structures of code tables were compared to read
+    /// the lead: for each code of its stream, and of its reference beat's, the place
+    /// of its structure in the table, from 1, all added up. That is 0 without code
+    /// tables, and at most 64 for each bit of the codes: a stream has at most 524,280
+    /// bits, so that a lead costs at most 33,553,920 comparisons for each of its one
+    /// or two streams.
+    ///
     /// As CSV (RFC 4180) there is a column for each lead, and a row for each sample
     /// number that some lead has; refusals go to standard error, and the lead's
     /// column is headed by its refusal and empty.
@@ -195,7 +202,10 @@ pub enum Command {
     /// its code tables, if it has any, keep their rule. Any other record is refused:
     /// its line has the number, that of opening or else of the first lead that is
     /// refused, with what the rule asks and the first thing found; report shows all of
-    /// it. At the end: how many files were refused with each number.
+    /// it. At the end: how many files were refused with each number, and the busiest
+    /// record, the one with the most structures of code tables compared over all its
+    /// leads (tigmavresh help samples says what is counted), or the first of several.
+    /// A record that is refused does not count for it.
     ///
     /// In a folder every regular file is checked, whatever its name is, and every folder
     /// in it, in the order of their names. A link is followed if it is given as PATH.
@@ -226,8 +236,9 @@ pub enum Command {
     /// Show every rule that a record breaks
     ///
     /// The rules of refusals 1 to 9 are asked one by one, not only down to the first
-    /// that is broken; then every lead is read, and its answer shown. For each rule
-    /// that is broken it is said what was found.
+    /// that is broken; then every lead is read, and its answer shown, with how many
+    /// structures of code tables were compared (tigmavresh help samples says what is
+    /// counted). For each rule that is broken it is said what was found.
     ///
     /// The answer to a rule is certain where those before it are kept. Where an earlier
     /// one is broken it is a hint: bytes may be elsewhere than it looks. If a record is

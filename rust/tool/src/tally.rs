@@ -1,12 +1,15 @@
-//! How many files were accepted, refused and not read.
+//! How many files were accepted, refused and not read, and which record was the busiest.
 
 use std::collections::BTreeMap;
 use std::fmt;
+use std::path::{Path, PathBuf};
 
 use scp::Refusal;
 
+use crate::paths::shown;
 use crate::status::Status;
 use crate::table::{self, numbers, words, Column};
+use crate::text;
 
 const COLUMNS: [Column; 3] = [numbers("Number"), numbers("Files"), words("Rule broken")];
 
@@ -21,10 +24,28 @@ pub struct Tally {
     pub special_files: usize,
     /// Whether the user ended it before all files were counted.
     pub is_interrupted: bool,
+    /// The busiest record, if reading some record compared any structure.
+    pub busiest: Option<Busiest>,
     by_refusal: BTreeMap<Refusal, usize>,
 }
 
+/// A record, and how many structures of code tables reading its leads compared.
+pub struct Busiest {
+    pub file: PathBuf,
+    pub compared: usize,
+}
+
 impl Tally {
+    /// Counts a record that was accepted, and that so many structures were compared for. Of equally busy ones the first counts.
+    pub fn accept(&mut self, file: &Path, compared: usize) {
+        self.accepted += 1;
+        let most = self.busiest.as_ref().map_or(0, |record| record.compared);
+        if compared > most {
+            let file = file.to_path_buf();
+            self.busiest = Some(Busiest { file, compared });
+        }
+    }
+
     /// Counts a file that was refused.
     pub fn refuse(&mut self, refusal: Refusal) {
         *self.by_refusal.entry(refusal).or_default() += 1;
@@ -96,6 +117,13 @@ impl fmt::Display for Tally {
             f,
             "{files}: {accepted} accepted, {refused} refused, {not_read} not read{passed_over}"
         )
+    }
+}
+
+impl fmt::Display for Busiest {
+    fn fmt(&self, f: &mut fmt::Formatter<'_>) -> fmt::Result {
+        let (file, compared) = (shown(&self.file), text::compared(self.compared));
+        write!(f, "busiest record: {file} ({compared})")
     }
 }
 

@@ -52,6 +52,11 @@ pub fn counted(count: usize, thing: &str) -> String {
     }
 }
 
+/// A number of structures that were compared, in words.
+pub fn compared(structures: usize) -> String {
+    parted(&format!("{} compared", counted(structures, "structure")))
+}
+
 /// A number of leads, in words.
 pub fn how_many(leads: usize) -> String {
     match leads {
@@ -64,7 +69,7 @@ pub fn how_many(leads: usize) -> String {
 mod tests {
     use std::io;
 
-    use super::{parted, reason};
+    use super::{compared, parted, reason};
 
     #[test]
     fn long_numbers_are_parted() {
@@ -79,6 +84,18 @@ mod tests {
             ("", ""),
         ] {
             assert_eq!(parted(text), told);
+        }
+    }
+
+    #[test]
+    fn structures_compared_are_counted() {
+        for (structures, told) in [
+            (0, "0 structures compared"),
+            (1, "1 structure compared"),
+            (9999, "9999 structures compared"),
+            (33_553_920, "33,553,920 structures compared"),
+        ] {
+            assert_eq!(compared(structures), told);
         }
     }
 

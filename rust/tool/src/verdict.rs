@@ -29,8 +29,9 @@ pub enum Word {
 /// The verdict on a record.
 #[derive(Clone, Copy, Debug, PartialEq, Eq)]
 pub enum Verdict {
-    /// It opens, and this many leads are read: none, where it has neither Section 3 nor Section 6.
-    Accepted { leads: usize },
+    /// It opens, and this many leads are read: none, where it has neither Section 3 nor Section 6. That compared so many
+    /// structures of code tables, over all leads.
+    Accepted { leads: usize, compared: usize },
     /// It is refused, or a lead of it at this place is, the first one.
     Refused {
         refusal: Refusal,
@@ -80,14 +81,19 @@ impl Verdict {
                 }
             }
         };
-        let refused = |place| room.read(record, place).err().map(|why| (place, why));
-        match (1..=leads).find_map(refused) {
-            Some((place, refusal)) => Verdict::Refused {
-                refusal,
-                lead: (refusal > OF_ALL).then_some(place),
-            },
-            None => Verdict::Accepted { leads },
+        let mut compared = 0;
+        for place in 1..=leads {
+            match room.read(record, place) {
+                Ok((lead, _)) => compared += lead.compared as usize,
+                Err(refusal) => {
+                    return Verdict::Refused {
+                        refusal,
+                        lead: (refusal > OF_ALL).then_some(place),
+                    }
+                }
+            }
         }
+        Verdict::Accepted { leads, compared }
     }
 
     /// The place of the lead that is refused, if it is one lead.
@@ -101,7 +107,7 @@ impl Verdict {
     /// The verdict on a record of this size, in a few words.
     pub fn told(&self, size: Size) -> String {
         match self {
-            Verdict::Accepted { leads } => format!("{self} ({size}; {})", how_many(*leads)),
+            Verdict::Accepted { leads, .. } => format!("{self} ({size}; {})", how_many(*leads)),
             Verdict::Refused { .. } => format!("{self} ({size})"),
         }
     }
@@ -160,11 +166,11 @@ mod tests {
                 row => aimed(&mut rng, row),
             };
             match Verdict::of(&record, &mut room) {
-                Verdict::Accepted { leads } => {
+                Verdict::Accepted { leads, compared } => {
                     assert!(scp::open(&record).is_ok());
-                    for place in 1..=leads {
-                        assert!(scp::samples(&record, place).is_ok());
-                    }
+                    let read = |place| scp::samples(&record, place).unwrap().0;
+                    let each = (1..=leads).map(|place| read(place).compared as usize);
+                    assert_eq!(each.sum::<usize>(), compared);
                     let next = scp::samples(&record, leads + 1);
                     assert_eq!(next.err(), Some(Refusal::ABSENT));
                     accepted += 1;

@@ -7,23 +7,23 @@ use std::os::unix::fs::symlink;
 use std::process::Command;
 
 use common::folder::Folder;
-use common::record::{put, seal};
+use common::record::{put, seal, FIELDS};
 use common::waiting::Waiting;
 use common::{
     run, run_by_shell, run_in, run_on_terminal, run_with_input, sample, samples, Ran, NOTE,
 };
 use serde_json::{json, Value};
 
-/// The samples that are accepted, and how many leads are read.
-const ACCEPTED: [(&str, usize); 8] = [
-    ("007.scp", 0),
-    ("7.scp", 0),
-    ("beat.scp", 2),
-    ("limb-leads.scp", 6),
-    ("makers-sections.scp", 0),
-    ("own-tables.scp", 2),
-    ("padded.scp", 2),
-    ("two-leads.scp", 2),
+/// The samples that are accepted, how many leads are read, and how many structures that compares.
+const ACCEPTED: [(&str, usize, usize); 8] = [
+    ("007.scp", 0, 0),
+    ("7.scp", 0, 0),
+    ("beat.scp", 2, 403),
+    ("limb-leads.scp", 6, 689),
+    ("makers-sections.scp", 0, 0),
+    ("own-tables.scp", 2, 88),
+    ("padded.scp", 2, 478),
+    ("two-leads.scp", 2, 0),
 ];
 
 /// The numbers that there is a sample for.
@@ -46,12 +46,13 @@ impl Ran {
 
 #[test]
 fn each_sample_is_checked() {
-    for (name, leads) in ACCEPTED {
+    for (name, leads, compared) in ACCEPTED {
         let ran = run(&["check", name, "--json"]);
         assert_eq!((ran.status, ran.err.as_str()), (0, ""), "{name}");
         let shown = &ran.lines()[0];
         let bytes = sample(name).len();
-        let expected = json!({"file": name, "bytes": bytes, "verdict": "accepted", "refusal": null, "lead_count": leads});
+        let expected = json!({"file": name, "bytes": bytes, "verdict": "accepted", "refusal": null, "lead_count": leads,
+            "compared": compared});
         assert_eq!(*shown, expected);
     }
     for number in REFUSED {
@@ -60,7 +61,7 @@ fn each_sample_is_checked() {
         assert_eq!((ran.status, ran.err.as_str()), (1, ""), "{name}");
         let shown = &ran.lines()[0];
         assert_eq!(shown["refusal"], number);
-        assert!(shown.get("lead_count").is_none());
+        assert!(shown.get("lead_count").is_none() && shown.get("compared").is_none());
         // 12 to 14 are of one lead, here the second
         let lead = if number > 10 { json!(2) } else { json!(null) };
         assert_eq!(shown["lead"], lead, "{name}");
@@ -91,12 +92,119 @@ The proved library decided; the explanation is not proved.
   Number  Files  Rule broken
        1      1  a record has 142 to 1,048,576 bytes, as many as its size field says
       12      1  each value has a complete code of the current table
+busiest record: limb-leads.scp (689 structures compared)
 ";
     assert_eq!((ran.status, ran.out.as_str()), (1, text));
     let ran = run(&["check", "007.scp"]);
     let text =
         "007.scp: accepted (196 bytes; no lead)\n\n1 file: 1 accepted, 0 refused, 0 not read\n";
     assert_eq!((ran.status, ran.out.as_str()), (0, text));
+}
+
+/// The last line of the summary is the busiest record that was accepted, wherever it stands, and the first of several.
+#[test]
+fn the_busiest_record_closes_the_summary() {
+    let folder = Folder::new("busiest");
+    for (name, like) in [("a", "padded"), ("b", "beat"), ("c", "padded")] {
+        folder.file(&format!("{name}.scp"), &sample(&format!("{like}.scp")));
+    }
+    symlink(samples(), folder.path("s")).unwrap();
+    for (files, file, compared) in [
+        ("b.scp", "b.scp", 403),
+        ("a.scp b.scp", "a.scp", 478),
+        ("b.scp a.scp", "a.scp", 478),
+        ("s/007.scp b.scp a.scp s/own-tables.scp", "a.scp", 478),
+        ("c.scp b.scp a.scp", "c.scp", 478),
+        (".", "./a.scp", 478),
+        ("c.scp .", "c.scp", 478),
+        (
+            "none.scp s/refused-13.scp s/own-tables.scp",
+            "s/own-tables.scp",
+            88,
+        ),
+        ("s/", "s/limb-leads.scp", 689),
+    ] {
+        let files: Vec<&str> = files.split(' ').collect();
+        let line = format!("busiest record: {file} ({compared} structures compared)");
+        for more in [&[][..], &["--refused"]] {
+            let ran = run_in(&folder, &[&["check"], more, &files].concat());
+            assert_eq!(ran.out.lines().last(), Some(line.as_str()), "{files:?}");
+            assert_eq!(ran.out.matches("busiest").count(), 1);
+        }
+        let ran = run_in(&folder, &[&["check", "--json"], &files[..]].concat());
+        let busiest = json!({"file": file, "compared": compared});
+        assert_eq!(ran.lines().pop().unwrap()["summary"]["busiest"], busiest);
+    }
+}
+
+/// Where nothing was compared no record is the busiest: none has code tables and leads, or all that have are refused. A record
+/// of which one lead is refused is one of them, though others of its leads are read.
+#[test]
+fn no_record_is_the_busiest_where_nothing_was_compared() {
+    let refused = REFUSED.map(|number| format!("refused-{number}.scp"));
+    let refused: Vec<&str> = refused.iter().map(String::as_str).collect();
+    let idle = ["007.scp", "7.scp", "makers-sections.scp", "two-leads.scp"];
+    for files in [&refused[..], &idle, &["refused-12.scp", "two-leads.scp"]] {
+        let ran = run(&[&["check"], files].concat());
+        assert!(!ran.out.contains("busiest"), "{}", ran.out);
+        let ran = run(&[&["check", "--json"], files].concat());
+        let summary = ran.lines().pop().unwrap();
+        assert_eq!(summary["summary"]["files"], files.len());
+        assert!(summary["summary"].get("busiest").is_none(), "{summary}");
+    }
+}
+
+/// A record of leads with so many samples, each read by as many comparisons as there can be for a bit: its code is one bit, the
+/// last of 64 structures.
+fn busy(counts: &[u32]) -> Vec<u8> {
+    let mut tables = vec![1, 0, 64, 0];
+    for value in 1..=63 {
+        // a 1 and then six bits, others for each
+        tables.extend([7, 7, 1, value, 0, 2 * value - 1, 0, 0, 0]);
+    }
+    tables.extend([1, 1, 1, 0, 0, 0, 0, 0, 0]);
+    let ids: Vec<u8> = (1..).take(counts.len()).collect();
+    let samples: u32 = counts.iter().sum();
+    let writing = judge::Writing {
+        section1: &FIELDS,
+        section2: &tables,
+        version: 13,
+        flags: 0,
+        step: 5000,
+        interval: 2000,
+        order: 0,
+        firsts: &vec![1; counts.len()],
+        counts,
+        ids: &ids,
+        samples: &vec![0; samples as usize],
+    };
+    judge::write_record(&writing, scp::SAMPLES_MAX, scp::RECORD_MAX).unwrap()
+}
+
+/// Long numbers are parted as others are, and a record's is the sum over its leads.
+#[test]
+fn a_busy_record_has_its_thousands_parted() {
+    let folder = Folder::new("busy");
+    folder.file("busy.scp", &busy(&[65_536, 1]));
+    let ran = run_in(&folder, &["check", "busy.scp"]);
+    let line = "busiest record: busy.scp (4,194,368 structures compared)";
+    assert_eq!(ran.out.lines().last(), Some(line));
+    let ran = run_in(&folder, &["check", "--json", "busy.scp"]);
+    assert_eq!(ran.lines()[0]["compared"], 64 * 65_537);
+    let ran = run_in(&folder, &["report", "busy.scp"]);
+    let rows = "\
+  Lead      Answer    Structures compared
+     1  I   accepted            4,194,304
+     2  II  accepted                   64
+";
+    assert!(ran.out.ends_with(rows), "{}", ran.out);
+    let ran = run_in(&folder, &["samples", "busy.scp"]);
+    for line in [
+        "Lead 1, I: samples 1 to 65536, in steps of 5000 nV, 2000 us apart; 4,194,304 structures compared",
+        "Lead 2, II: samples 1 to 1, in steps of 5000 nV, 2000 us apart; 64 structures compared",
+    ] {
+        assert!(ran.out.lines().any(|shown| shown == line), "{line}");
+    }
 }
 
 /// A record without leads is accepted, but not one whose code tables break their rule.
@@ -147,7 +255,8 @@ fn the_answer_does_not_depend_on_the_jobs() {
     assert_eq!(ran.names(), names);
     let summary = ran.lines().pop().unwrap();
     let counts = json!({"files": 600, "accepted": 360, "refused": 240, "unread": 0, "interrupted": false,
-        "passed_over": {"links": 0, "special_files": 0}, "by_number": {"2": 120, "13": 120}});
+        "passed_over": {"links": 0, "special_files": 0}, "by_number": {"2": 120, "13": 120},
+        "busiest": {"file": "./0004.scp", "compared": 689}});
     assert_eq!(summary["summary"], counts);
     assert_eq!(summary["note"], NOTE);
 }
@@ -294,11 +403,9 @@ fn only_the_refused_are_shown_if_that_is_asked() {
     assert!(ran
         .first_line()
         .starts_with("refused-6.scp: refused, number 6"));
-    assert!(
-        !ran.out.contains("007.scp") && !ran.out.contains("beat.scp"),
-        "{}",
-        ran.out
-    );
+    for name in ["007.scp: ", "beat.scp: "] {
+        assert!(!ran.out.contains(name), "{}", ran.out);
+    }
     assert!(ran
         .out
         .contains("\n3 files: 2 accepted, 1 refused, 0 not read\n"));
@@ -354,7 +461,7 @@ fn a_bar_has_no_wrong_total() {
         return;
     };
     let shown = ran.out.split(['\r', '\n']);
-    let shown: Vec<&str> = shown.filter(|line| line.contains("files")).collect();
+    let shown: Vec<&str> = shown.filter(|line| line.contains(" files")).collect();
     let (last, bars) = shown.split_last().unwrap();
     assert!(last.contains("2000 files: 2000 accepted"), "{last}");
     assert!(!bars.is_empty());
@@ -389,6 +496,7 @@ fn an_interruption_shows_the_summary() {
         for name in ["a.scp", "b.scp", "z.scp"] {
             folder.file(name, &sample("7.scp"));
         }
+        folder.file("a.scp", &sample("beat.scp"));
         folder.file("b.scp", &sample("refused-2.scp"));
         let files = ["check", "a.scp", "b.scp", "pipe", "z.scp"];
         let words = [&files[..], &["--jobs", jobs], form].concat();
@@ -404,11 +512,15 @@ fn an_interruption_shows_the_summary() {
             true => {
                 let text = "interrupted, so far 2 files: 1 accepted, 1 refused, 0 not read";
                 assert!(lines.iter().any(|line| line == text), "{last}");
+                let busiest = "\nbusiest record: a.scp (403 structures compared)";
+                assert!(last.ends_with(busiest), "{last}");
             }
             false => {
                 let summary: Value = serde_json::from_str(&last).unwrap();
                 assert_eq!(summary["summary"]["files"], 2);
                 assert_eq!(summary["summary"]["interrupted"], true);
+                let busiest = json!({"file": "a.scp", "compared": 403});
+                assert_eq!(summary["summary"]["busiest"], busiest);
             }
         }
     }

@@ -40,7 +40,7 @@ fn a_report_agrees_with_check() {
         );
         let checked: Value = serde_json::from_str(check.first_line()).unwrap();
         let shown = report.json();
-        for key in ["file", "bytes", "lead", "lead_count"] {
+        for key in ["file", "bytes", "lead", "lead_count", "compared"] {
             assert_eq!(shown[key], checked[key], "{name}");
         }
         assert_eq!(shown["refusal"], checked["refusal"]);
@@ -73,9 +73,9 @@ beat.scp: accepted (418 bytes; 2 leads)
      8  Sections 3 to 6          kept
      9  bimodal, step, interval  kept
 
-  Lead      Answer
-     1  I   accepted
-     2  II  accepted
+  Lead      Answer    Structures compared
+     1  I   accepted                  225
+     2  II  accepted                  178
 ";
     let ran = run(&["report", "beat.scp"]);
     assert_eq!((ran.status, ran.out.as_str()), (0, text));
@@ -84,6 +84,17 @@ beat.scp: accepted (418 bytes; 2 leads)
     assert!(ran
         .out
         .ends_with("\nNo lead is read: there is neither Section 3 nor Section 6\n"));
+}
+
+/// A record's structures compared are those of its leads together.
+#[test]
+fn the_structures_compared_are_summed_up() {
+    for name in ["limb-leads.scp", "own-tables.scp", "padded.scp", "007.scp"] {
+        let shown = run(&["report", name, "--json"]).json();
+        let leads = shown["leads"].as_array().unwrap().iter();
+        let compared: u64 = leads.map(|lead| lead["compared"].as_u64().unwrap()).sum();
+        assert_eq!(shown["compared"], compared, "{name}");
+    }
 }
 
 /// Two rules broken at once: the smaller is certain, the other is not, and both are shown with what was found.
@@ -124,11 +135,15 @@ fn every_rule_that_is_broken_is_shown() {
 /// Each lead has an answer of its own.
 #[test]
 fn every_lead_is_read() {
-    for number in [12, 13, 14] {
+    for (number, compared) in [(12, 67), (13, 225), (14, 67)] {
         let name = format!("refused-{number}.scp");
         let ran = run(&["report", &name]);
         assert_eq!(ran.status, 1);
-        let rows = format!("\n     1  I   accepted\n     2  II  refused, number {number}\n");
+        let rows = format!(
+            "\n  Lead      Answer              Structures compared\n     \
+             1  I   accepted           {compared:>20}\n     \
+             2  II  refused, number {number}\n"
+        );
         assert!(ran.out.contains(&rows), "{}", ran.out);
         assert!(ran.out.contains(&format!(
             "\nLead 2, II: refused, number {number}\n  rule broken  "
@@ -138,6 +153,9 @@ fn every_lead_is_read() {
         let leads = shown["leads"].as_array().unwrap();
         assert_eq!((leads.len(), &leads[0]["refusal"]), (2, &json!(null)));
         assert_eq!(leads[1]["refusal"], number);
+        assert_eq!(leads[0]["compared"], compared);
+        assert!(leads[1].get("compared").is_none());
+        assert!(shown.get("compared").is_none());
         assert!(leads[0].get("samples").is_none());
     }
     let ran = run(&["report", "refused-10.scp"]);

@@ -392,10 +392,10 @@ fn samples_are_shown_as_they_are_stored() {
     let text = "\
 two-leads.scp: accepted (2 leads)
 
-Lead 1, I: samples 1 to 8, in steps of 5000 nV, 2000 us apart
+Lead 1, I: samples 1 to 8, in steps of 5000 nV, 2000 us apart; 0 structures compared
   1   10  12  13  15  18  22  20  15
 
-Lead 2, II: samples 1 to 8, in steps of 5000 nV, 2000 us apart
+Lead 2, II: samples 1 to 8, in steps of 5000 nV, 2000 us apart; 0 structures compared
   1   -3  -3  -2  -1   4   0  -1  -1
 ";
     assert_eq!(ran.out, text);
@@ -403,13 +403,47 @@ Lead 2, II: samples 1 to 8, in steps of 5000 nV, 2000 us apart
     let text = "\
 own-tables.scp: accepted (lead 2 of 2)
 
-Lead 2, II: samples 7 to 14, in steps of 5000 nV, 2000 us apart
+Lead 2, II: samples 7 to 14, in steps of 5000 nV, 2000 us apart; 21 structures compared
    7     15    15     0  -128   127     1     1     1
 ";
     assert_eq!(ran.out, text);
 }
 
-/// Padding is ignored, whatever it holds: each form shows the samples of `beat.scp`.
+/// A sample with leads, and how many structures reading each compares, worked out from the papers alone. The first lead of
+/// `own-tables.scp` is P5, with both switches.
+const COMPARED: [(&str, &[u32]); 5] = [
+    ("two-leads.scp", &[0, 0]),
+    ("limb-leads.scp", &[160, 168, 152, 59, 80, 70]),
+    ("own-tables.scp", &[67, 21]),
+    ("beat.scp", &[225, 178]),
+    ("padded.scp", &[272, 206]),
+];
+
+/// Each lead has the structures compared beside what else is read of it, as text and as JSON; the table of samples has not.
+#[test]
+fn the_structures_compared_are_shown() {
+    for (name, compared) in COMPARED {
+        let text = run(&["samples", name]).out;
+        let heads = text.lines().filter(|line| line.starts_with("Lead "));
+        let ends = heads.filter_map(|head| Some(head.split_once(" us apart; ")?.1));
+        let told = |many: &u32| format!("{many} structures compared");
+        let told: Vec<String> = compared.iter().map(told).collect();
+        assert_eq!(ends.collect::<Vec<_>>(), told, "{name}");
+        let shown = json(&["samples", name, "--json"]);
+        for (place, many) in compared.iter().enumerate() {
+            assert_eq!(shown["leads"][place]["compared"], *many, "{name}");
+            let place = (place + 1).to_string();
+            let one = json(&["samples", name, "--json", "--lead", &place]);
+            assert_eq!(one["leads"][0]["compared"], *many, "{name}");
+        }
+        for words in [["samples", "--csv", name], ["leads", "--json", name]] {
+            assert!(!run(&words).out.contains("compared"), "{words:?}");
+        }
+    }
+}
+
+/// Padding is ignored, whatever it holds: each form shows the samples of `beat.scp`. As they are second differences, other
+/// structures are compared.
 #[test]
 fn padded_leads_are_those_of_the_beat() {
     for words in [
@@ -421,7 +455,12 @@ fn padded_leads_are_those_of_the_beat() {
         let shown = |name| run(&[words, &[name]].concat());
         let (padded, beat) = (shown("padded.scp"), shown("beat.scp"));
         assert_eq!((padded.status, padded.err.as_str()), (0, ""), "{words:?}");
-        assert_eq!(padded.out.replace("padded.scp", "beat.scp"), beat.out);
+        let padded = padded.out.replace("padded.scp", "beat.scp");
+        let lines = |shown: &str| -> Vec<String> {
+            let before = |line: &str| line.split(';').next().map(str::to_string);
+            shown.lines().filter_map(before).collect()
+        };
+        assert_eq!(lines(&padded), lines(&beat.out));
     }
     let lead = |name| json(&["samples", name, "--json"])["leads"].take();
     let (padded, beat) = (lead("padded.scp"), lead("beat.scp"));
@@ -491,6 +530,8 @@ fn json_says_what_is_refused() {
     let shown = json(&["samples", "refused-12.scp", "--json"]);
     assert_eq!(shown["leads"][0]["samples"][1], 2);
     assert_eq!(shown["leads"][1]["refusal"], 12);
+    assert_eq!(shown["leads"][0]["compared"], 67);
+    assert!(shown["leads"][1].get("compared").is_none());
     assert_eq!(shown["refusal"], shown["leads"][1]["refusal"]);
     assert_eq!(shown["lead"], 2);
     let report = json(&["report", "refused-12.scp", "--json"]);

@@ -115,6 +115,12 @@ fn rare_answers_keep_the_schema() {
             "{long}"
         );
     }
+    // so is the name of the busiest record
+    fs::copy(samples().join("beat.scp"), folder.0.join(name)).unwrap();
+    let ran = run_in(&folder, &["check", "--json", "."]);
+    assert_eq!(told("check", &ran).len(), 1);
+    let busiest = &objects(&ran)[1]["summary"]["busiest"];
+    assert_eq!(busiest["file_bytes"], "2E 2F FF 2E 73 63 70");
     fs::create_dir(folder.path("empty")).unwrap();
     assert!(told("check", &run_in(&folder, &["check", "--json", "empty"])).is_empty());
 }
@@ -185,15 +191,39 @@ fn the_schema_refuses_other_shapes() {
         ("refusal", json!(10)),
         ("lead_count", json!(-1)),
         ("lead_count", json!("0")),
+        ("compared", json!(-1)),
+        ("compared", json!(null)),
         ("more", json!(1)),
     ] {
         let mut bad = good[0].clone();
         bad[key] = value;
         assert!(schema.check(&bad).is_err(), "{bad}");
     }
-    for key in ["file", "verdict", "refusal"] {
+    for key in ["file", "verdict", "refusal", "compared"] {
         let mut bad = good[0].clone();
         bad.as_object_mut().unwrap().remove(key);
         assert!(schema.check(&bad).is_err(), "{bad}");
+    }
+}
+
+/// The same of the structures compared for a lead, for a record and for the busiest one: the least and the most of them.
+#[test]
+fn the_schema_bounds_the_structures_compared() {
+    let schema = schema();
+    let of_lead = 2i64 * 64 * 8 * 65_535;
+    let of_record = 32 * of_lead;
+    for (command, place, least, most) in [
+        ("samples", "/leads/1/compared", 0, of_lead),
+        ("report", "/leads/1/compared", 0, of_lead),
+        ("report", "/compared", 0, of_record),
+        ("check", "/summary/busiest/compared", 1, of_record),
+    ] {
+        let ran = run(&[command, "--json", "beat.scp"]);
+        let mut shown = objects(&ran).pop().unwrap();
+        for number in [least - 1, least, most, most + 1] {
+            *shown.pointer_mut(place).unwrap() = json!(number);
+            let is_right = (least..=most).contains(&number);
+            assert_eq!(schema.check(&shown).is_ok(), is_right, "{shown}");
+        }
     }
 }

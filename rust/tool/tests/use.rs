@@ -8,6 +8,7 @@ use std::io::{BufRead, BufReader, Write};
 use std::process::Stdio;
 
 use common::folder::Folder;
+use common::record::FIELDS;
 use common::{run, run_with_input, samples, tool, Ran};
 
 fn sample(name: &str) -> File {
@@ -172,9 +173,6 @@ fn a_closed_pipe_is_quiet_in_a_table() {
 
 /// A record with one lead of 32,000 samples.
 fn long_lead() -> Vec<u8> {
-    const FIELDS: [u8; 24] = [
-        2, 2, 0, b'7', 0, 14, 0, 0, 25, 4, 0, 0xE8, 7, 3, 14, 26, 3, 0, 9, 26, 53, 255, 0, 0,
-    ];
     let writing = judge::Writing {
         section1: &FIELDS,
         section2: &[],

@@ -9,12 +9,13 @@ use std::process::{Command, Stdio};
 use std::time::{Duration, UNIX_EPOCH};
 
 use common::folder::Folder;
-use common::record::{pad, put, seal, section};
+use common::record::{pad, put, seal, section, FIELDS};
 use common::{
     run, run_by_shell, run_on_terminal, run_with_input, sample, samples, tool, Ran, NOTE,
 };
 use judge::make::{self, Rng};
 use judge::Writing;
+use scp::Lead;
 
 // ---- where a record is put
 
@@ -254,6 +255,13 @@ fn nothing_is_left_of_a_failure() {
 
 // ---- packing
 
+/// A lead and its samples, without the structures compared: another stream may take more or fewer.
+fn read(record: &[u8], place: usize) -> (Lead, Vec<i16>) {
+    let (lead, samples) = scp::samples(record, place).unwrap();
+    let compared = 0;
+    (Lead { compared, ..lead }, samples)
+}
+
 #[test]
 fn packing_says_how_many_bytes_it_saved() {
     let folder = Folder::new("packed");
@@ -271,7 +279,7 @@ fn packing_says_how_many_bytes_it_saved() {
     assert_eq!(packed.len(), 406);
     let before = sample("own-tables.scp");
     for place in [1, 2] {
-        assert_eq!(scp::samples(&packed, place), scp::samples(&before, place));
+        assert_eq!(read(&packed, place), read(&before, place));
     }
     assert_eq!(folder.names(), ["out.scp"]);
     // packed once, there is nothing more to save
@@ -447,10 +455,6 @@ fn spare_ends() -> Vec<u8> {
     (1..=8).map(cut).find(is_odd).unwrap()
 }
 
-const FIELDS: [u8; 24] = [
-    2, 2, 0, b'7', 0, 14, 0, 0, 25, 4, 0, 0xE8, 7, 3, 14, 26, 3, 0, 9, 26, 53, 255, 0, 0,
-];
-
 /// Gaps of zeros, sections in any order and bits that fill up a stream hold nothing.
 #[test]
 fn what_holds_nothing_is_no_loss() {
@@ -548,7 +552,7 @@ fn any_record_may_be_given() {
                 assert!(packed.len() <= record.len());
                 let leads = scp::leads(&record).unwrap().len();
                 for place in 1..=leads {
-                    assert_eq!(scp::samples(&packed, place), scp::samples(&record, place));
+                    assert_eq!(read(&packed, place), read(&record, place));
                 }
                 fs::remove_file(&out).unwrap();
             }

@@ -27,38 +27,41 @@ section-of-requires-2 c κs = search needs
 lead-id-requires : tie.Need-lead-id-requires
 lead-id-requires c κs = search needs
 
-cast-t6 : tie.Need-cast-t6
-cast-t6 c = search needs
+cast-t7 : tie.Need-cast-t7
+cast-t7 c = search needs
 
 flags-of-requires : tie.Need-flags-of-requires
 flags-of-requires c κs = search needs
 
-cast-t8 : tie.Need-cast-t8
-cast-t8 c = search needs
+cast-t9 : tie.Need-cast-t9
+cast-t9 c = search needs
 
 step-of-requires : tie.Need-step-of-requires
 step-of-requires c κs = search needs
 
-cast-t10 : tie.Need-cast-t10
-cast-t10 c = search needs
+cast-t11 : tie.Need-cast-t11
+cast-t11 c = search needs
 
 interval-of-requires : tie.Need-interval-of-requires
 interval-of-requires c κs = search needs
 
-cast-t12 : tie.Need-cast-t12
-cast-t12 c = search needs
+cast-t13 : tie.Need-cast-t13
+cast-t13 c = search needs
 
 first-sample-requires : tie.Need-first-sample-requires
 first-sample-requires c κs = search needs
 
-cast-t14 : tie.Need-cast-t14
-cast-t14 c = search needs
+cast-t15 : tie.Need-cast-t15
+cast-t15 c = search needs
 
 sample-count-requires : tie.Need-sample-count-requires
 sample-count-requires c κs = search needs
 
-cast-t16 : tie.Need-cast-t16
-cast-t16 c = let e = count c in omega arith
+cast-t17 : tie.Need-cast-t17
+cast-t17 c = let e = count c in omega arith
+
+cast-t18 : tie.Need-cast-t18
+cast-t18 c = omega arith
 
 returns : tie.Need-returns
 returns c xs e =
@@ -73,6 +76,7 @@ returns c xs e =
       c .before .first-sample .ensures .0 ∙ ap (λ (s : List ℕ). firstSample s (a .k)) three,
       count c,
       e,
+      c .before .before .before .before .before .before .before .before .before .pre .2,
     )
 
 pub lead-at-spec : {M : Type 1} → statement M
@@ -82,15 +86,16 @@ lead-at-spec =
     section-of-requires
     section-of-requires-2
     lead-id-requires
-    cast-t6
+    cast-t7
     flags-of-requires
-    cast-t8
+    cast-t9
     step-of-requires
-    cast-t10
+    cast-t11
     interval-of-requires
-    cast-t12
+    cast-t13
     first-sample-requires
-    cast-t14
+    cast-t15
     sample-count-requires
-    cast-t16
+    cast-t17
+    cast-t18
     returns)

@@ -2,19 +2,18 @@
 use Prim.Native.Nat.{ℕ, _≤_}
 use mathlib.Core.Path.{_≡_, refl, sym, ap, _∙_}
 use mathlib.Core.Bool.{true}
-use mathlib.Core.List.{List, _++_}
 use native.Mathlib.Omega.{arith}
-use lib.IntN.{ℤ, pos}
-use lib.ListN.{length, take, drop, replicate}
+use lib.ListN.{length, take}
 use lib.Seq.{length-take-le}
 use borrow.Author.Needs.{needs}
 use Rattle.wire.proofs.Tests.{kept, broken}
 use Rattle.entries.proofs.Laws.{interval-some}
-use Rattle.rules.specs.LeadRules.{beatSubtracted, beatSampleCount}
+use Rattle.rules.specs.LeadRules.{beatSubtracted}
 use Rattle.rules.proofs.Laws.{sound-beat}
 use Rattle.leads.specs.LeadTrace.{streamTrace, residual}
 use Rattle.leads.specs.InnerLead.{Readable}
-use Rattle.leads.proofs.Laws.{zeros, without-beat}
+use Rattle.leads.specs.LeadCompared.{streamCompared}
+use Rattle.leads.proofs.Laws.{zeros, without-beat, compared-own}
 use Rattle.leads.proofs.lead_into.Statement.{statement}
 use Rattle.leads.proofs.lead_into.Tie as tie
 
@@ -44,10 +43,17 @@ unfolding residual
 returns c =
     let d = c .before .before .before .before .before .before .before in
     let r = d .args .rec .now in
+    let got = c .before .stream-into .ensures in
     let none = broken (c .before .before .before .before .has-beat .ensures) (c .before .before .before .if1 .taken) in (
-      c .before .stream-into .ensures .0 ∙ ap (λ (n : ℕ). streamTrace r 6 n (d .args .k)) (d .pre .1 .1) ∙ without-beat r (d .args .k) none,
-      c .before .stream-into .ensures .1,
-      rw none refl,
+      (
+        got .0 .0 ∙ ap (λ (n : ℕ). streamTrace r 6 n (d .args .k)) (d .pre .1 .1) ∙ without-beat r (d .args .k) none,
+        got .0 .1,
+        rw none refl,
+      ),
+      (
+        λ e. got .1 .0 e ∙ ap (λ (n : ℕ). streamCompared r 6 n (d .args .k)) (d .pre .1 .1) ∙ sym (compared-own r (d .args .k) none),
+        omega (arith, got .1 .1),
+      ),
     )
 
 beat-sample-count-requires : tie.Need-beat-sample-count-requires
@@ -93,9 +99,12 @@ returns-2 c =
     let e = c .before .before .before .before .before in
     let beat = beaten (e .before .before .before .before) in
     let same : length (c .before .clear .last .0) ≡ length (d .args .work .now) = search needs in (
-      e .with-beat .ensures .0,
+      (
+        e .with-beat .ensures .0 .0,
+        e .with-beat .ensures .0 .1,
+        rw beat (zeros (c .before .clear .last .0) _ (c .before .clear .ensures) same),
+      ),
       e .with-beat .ensures .1,
-      rw beat (zeros (c .before .clear .last .0) _ (c .before .clear .ensures) same),
     )
 
 pub lead-into-spec : {M : Type 1} → statement M

@@ -1,8 +1,6 @@
 -- A fault is handed on; else the samples in the room are the lead's.
-use Prim.Native.Nat.{ℕ}
-use mathlib.Core.Path.{sym, ap, _∙_}
+use mathlib.Core.Path.{_∙_}
 use borrow.Author.Needs.{needs}
-use Rattle.samples.specs.InnerTrace.{traceOf}
 use Rattle.leads.specs.LeadTrace.{traceAt}
 use Rattle.leads.proofs.Laws.{out-fault, out-rebuilt}
 use Rattle.leads.proofs.lead_out.Statement.{statement}
@@ -19,11 +17,11 @@ same-length-2 c = search needs
 
 returns : tie.Need-returns
 returns c =
-    let d = c .before .before .before .before .before .before .before .before in
-    let read = c .before .before .before .lead-into in
+    let d = c .before .before .before .before .before .before .before .before .before in
+    let read = c .before .before .before .before .lead-into in
     let trace = traceAt (d .args .rec .now) (d .args .k) in
-    let answer = out-fault (read .result) _ (d .args .out .now) trace (c .if1 .taken) (read .ensures .0) in
-    ((_, read .ensures .0), answer, read .ensures .2)
+    let answer = out-fault (read .result .fault) _ (d .args .out .now) trace (c .if1 .taken) (read .ensures .0 .0) in
+    (((_, read .ensures .0 .0), answer, read .ensures .0 .2), read .ensures .1)
 
 copy-requires : tie.Need-copy-requires
 copy-requires c κs = search needs
@@ -39,13 +37,12 @@ same-length-5 c = search needs
 
 returns-2 : tie.Need-returns-2
 returns-2 c =
-    let d = c .before .before .before .before .before .before .before .before .before .before .before .before in
-    let read = c .before .before .before .before .before .before .before .lead-into in
+    let d = c .before .before .before .before .before .before .before .before .before .before .before .before .before in
+    let read = c .before .before .before .before .before .before .before .before .lead-into in
     let none = c .before .before .before .before .if1 .left in
     let trace = traceAt (d .args .rec .now) (d .args .k) in
-    let answer = out-rebuilt (read .result) _ (d .args .out .now) trace none (read .ensures .0) in
-    let rebuilt = ap (λ (n : ℕ). traceOf n (read .last .1 .1 .1 .0)) (sym none) ∙ read .ensures .0 in
-    ((_, rebuilt), c .before .copy .ensures ∙ answer, read .ensures .2)
+    let answer = out-rebuilt (read .result .fault) _ (d .args .out .now) trace none (read .ensures .0 .0) in
+    (((_, read .ensures .0 .0), c .before .copy .ensures ∙ answer, read .ensures .0 .2), read .ensures .1)
 
 pub lead-out-spec : {M : Type 1} → statement M
 lead-out-spec =

@@ -73,24 +73,25 @@ same-length-2 c = search needs
 
 returns-2 : tie.Need-returns-2
 returns-2 c =
-    let a = c .before .before .before .before .before .before .before .before .before .before .args in
+    let a = c .before .before .before .before .before .before .before .before .before .before .before .args in
     let r = a .rec .now in
     let k = a .place - 1 in
-    let got = c .before .before .before .before .read-into in
-    let start = c .before .before .before .before .before .before .before in
+    let got = c .before .before .before .before .before .read-into in
+    let start = c .before .before .before .before .before .before .before .before in
     let on = read start in
-    let t = trace-fault r k (got .result) (got .ensures .0 .0) (got .ensures .0 .1) (c .before .if2 .taken) in (
+    let t = trace-fault r k (got .result .fault) (got .ensures .0 .0 .0) (got .ensures .0 .0 .1) (c .before .if2 .taken) in (
       c .refused2 .ensures r k ∙ ap (λ (u : Trace). leadOf r k u) (t ∙ sym on),
-      (got .ensures .1 ∙ ap (λ (u : Trace). outAfter u (a .out .now)) (sym on), got .ensures .2 ∙ cleared start),
+      (got .ensures .0 .1 ∙ ap (λ (u : Trace). outAfter u (a .out .now)) (sym on), got .ensures .0 .2 ∙ cleared start),
     )
 
 sub-lead-at : tie.Need-sub-lead-at
-sub-lead-at c = here (c .before .before .before .before .before .before) .0
+sub-lead-at c = here (c .before .before .before .before .before .before .before) .0
 
 lead-at-requires : tie.Need-lead-at-requires
 lead-at-requires c κs =
-    let s = here (c .before .before .before .before .before .before) .1 in
-    (omega (arith, s .place, s .leads), s .count)
+    let s = here (c .before .before .before .before .before .before .before) .1 in
+    let sum = c .before .before .before .before .read-into .ensures .1 in
+    (omega (arith, s .place, s .leads), s .count, sum .0 (c .if2 .left), sum .1)
 
 same-length-3 : tie.Need-same-length-3
 same-length-3 c = search needs
@@ -100,16 +101,16 @@ same-length-4 c = search needs
 
 returns-3 : tie.Need-returns-3
 returns-3 c =
-    let a = c .before .before .before .before .before .before .before .before .before .before .args in
+    let a = c .before .before .before .before .before .before .before .before .before .before .before .args in
     let r = a .rec .now in
     let k = a .place - 1 in
-    let got = c .before .before .before .before .read-into in
-    let start = c .before .before .before .before .before .before .before in
+    let got = c .before .before .before .before .before .read-into in
+    let start = c .before .before .before .before .before .before .before .before in
     let on = read start in
-    let xs = got .ensures .0 .0 in
-    let t = trace-rebuilt r k (got .result) xs (got .ensures .0 .1) (c .before .if2 .left) in (
+    let xs = got .ensures .0 .0 .0 in
+    let t = trace-rebuilt r k (got .result .fault) xs (got .ensures .0 .0 .1) (c .before .if2 .left) in (
       c .lead-at .ensures xs (trace-length r k xs t) ∙ ap (λ (u : Trace). leadOf r k u) (t ∙ sym on),
-      (got .ensures .1 ∙ ap (λ (u : Trace). outAfter u (a .out .now)) (sym on), got .ensures .2 ∙ cleared start),
+      (got .ensures .0 .1 ∙ ap (λ (u : Trace). outAfter u (a .out .now)) (sym on), got .ensures .0 .2 ∙ cleared start),
     )
 
 pub read-lead-spec : {M : Type 1} → statement M

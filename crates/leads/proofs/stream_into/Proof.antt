@@ -2,12 +2,15 @@
 use Prim.Native.Nat.{ℕ}
 use mathlib.Core.Path.{ap, ap₂, _∙_}
 use mathlib.Core.List.{List}
+use native.Mathlib.Omega.{arith}
 use lib.ListN.{length}
 use borrow.Author.Needs.{needs}
 use Rattle.bits.specs.Bits.{bitsIn}
 use Rattle.entries.specs.Sections5And6.{orderOf, streamOf}
+use Rattle.reading.specs.Compared.{comparedOf}
 use Rattle.traces.specs.Rebuilding.{rebuild}
 use Rattle.leads.specs.LeadTrace.{tablesOf, streamTrace}
+use Rattle.leads.specs.LeadCompared.{streamCompared}
 use Rattle.leads.proofs.stream_into.Statement.{statement}
 use Rattle.leads.proofs.stream_into.Tie as tie
 
@@ -30,7 +33,7 @@ same-length : tie.Need-same-length
 same-length c = search needs
 
 returns : tie.Need-returns
-unfolding streamTrace
+unfolding streamTrace streamCompared
 returns c =
     let d = c .before .before .before .before .before .before .before .before .before in
     let r = d .args .rec .now in
@@ -39,10 +42,16 @@ returns c =
     let leads = c .before .before .before .before .before .leads-of .ensures .0 in
     let own = c .before .before .before .before .stream-of .ensures .0 in
     let stream = own ∙ ap₂ (λ (m : ℕ) (l : List ℕ). streamOf m l (d .args .k)) leads s in
-    let order = c .before .before .before .order-of .ensures .0 ∙ ap (λ (l : List ℕ). orderOf l) s in (
-      c .before .rebuild .ensures .0 (tablesOf r) (d .pre .0)
-          ∙ ap₂ (λ (o : ℕ) (l : List ℕ). rebuild (tablesOf r) o n (bitsIn l)) order stream,
-      c .before .rebuild .ensures .1,
+    let order = c .before .before .before .order-of .ensures .0 ∙ ap (λ (l : List ℕ). orderOf l) s in
+    let got = c .before .rebuild .ensures in (
+      (
+        got .0 .0 (tablesOf r) (d .pre .0) ∙ ap₂ (λ (o : ℕ) (l : List ℕ). rebuild (tablesOf r) o n (bitsIn l)) order stream,
+        got .0 .1,
+      ),
+      (
+        λ e. got .1 .0 (tablesOf r) (d .pre .0) e ∙ ap (λ (l : List ℕ). comparedOf (tablesOf r) n (bitsIn l)) stream,
+        omega (arith, got .1 .1, c .before .before .before .before .stream-of .ensures .1),
+      ),
     )
 
 pub stream-into-spec : {M : Type 1} → statement M

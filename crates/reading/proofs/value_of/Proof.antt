@@ -1,7 +1,7 @@
 -- With no remainder the least value of the form is the base value; else the window has the remainder, and two's complement makes the
 -- value of it. The form is a right structure's, so all numbers are small.
 use Prim.Native.Nat.{ℕ, suc, _+_, _*_, _^_, _≤_}
-use mathlib.Core.Path.{_≡_, sym, ap, _∙_}
+use mathlib.Core.Path.{_≡_, refl, sym, ap, _∙_}
 use native.Mathlib.Nat.{pos-of-ne-zero, pow-suc}
 use native.Mathlib.Omega.{arith}
 use lib.ListN.{length, take, drop, length-drop}
@@ -20,14 +20,17 @@ use Rattle.reading.proofs.value_of.Tie as tie
 own : (c : tie.Start) → ValueForm (c .pre .0 .0) (c .args .f)
 own c = value-form (c .pre .0 .0) (c .args .f) (c .pre .0 .1) (c .pre .0 .2) (c .pre .0 .3)
 
-add-t11 : tie.Need-add-t11
-add-t11 c = omega (arith, own (c .before) .fine .most)
+add-compared : tie.Need-add-compared
+add-compared c = omega arith
+
+add-t13 : tie.Need-add-t13
+add-t13 c = omega (arith, own (c .before .before) .fine .most)
 
 returns : tie.Need-returns
 returns c =
-    let a = c .before .args in (
+    let a = c .before .before .args in (
       λ d bs e right small seen.
-          let v = value-form d (a .f) e right (c .before .pre .0 .3) in
+          let v = value-form d (a .f) e right (c .before .before .pre .0 .3) in
           let x : fromZero 131072 (a .f .lo) ≡ signed 16 (d .base) =
           ap (fromZero 131072) (v .lo ∙ ap (lowest (d .base)) (c .if1 .taken)) ∙ lower-base (d .base) small in
           rw (
@@ -37,53 +40,53 @@ returns c =
             x,
             drop-drop (a .f .prefix) (a .c .at) bs,
           ),
-      omega (arith, own (c .before) .fine .some, own (c .before) .fine .lo),
+      (omega (arith, own (c .before .before) .fine .some, own (c .before .before) .fine .lo), refl),
     )
 
 add-if2 : tie.Need-add-if2
-add-if2 c = let v = own (c .before) in omega (arith, v .fine .most, v .fine .rest)
+add-if2 c = let v = own (c .before .before) in omega (arith, v .fine .most, v .fine .rest)
 
 returns-2 : tie.Need-returns-2
 returns-2 c =
-    let a = c .before .before .args in (
+    let a = c .before .before .before .args in (
       λ d bs e right small seen.
-          let v = value-form d (a .f) e right (c .before .before .pre .0 .3) in
+          let v = value-form d (a .f) e right (c .before .before .before .pre .0 .3) in
           let l = drop (a .c .at) bs in
           rw (v .rest, v .prefix)
           (sym
           (value-short (a .f .remainder) (d .base) (a .c .table) (drop (a .f .prefix) l)
           (omega (arith, length-drop (a .f .prefix) l, seen .count)))),
-      tt,
+      (tt, tt),
     )
 
 after-requires : tie.Need-after-requires
 after-requires c κs =
-    let v = own (c .before .before) in
+    let v = own (c .before .before .before) in
     omega (arith, pos-of-ne-zero (c .before .if1 .left), v .fine .most, v .fine .rest)
 
 sub-raised : tie.Need-sub-raised
-sub-raised c = rest-half (own (c .before .before .before .before)) (c .before .before .before .if1 .left) .3
+sub-raised c = rest-half (own (c .before .before .before .before .before)) (c .before .before .before .if1 .left) .3
 
 raised-requires : tie.Need-raised-requires
 raised-requires c κs =
-    let a = c .before .before .before .before .args in
-    let v = own (c .before .before .before .before) in
+    let a = c .before .before .before .before .before .args in
+    let v = own (c .before .before .before .before .before) in
     let h = rest-half v (c .before .before .before .if1 .left) in
     let n = high-small (a .w * 2 ^ (a .f .prefix)) (a .f .remainder) (omega (arith, v .fine .rest)) in
     let p = ap (λ (x : ℕ). 2 ^ x) (h .1) ∙ pow-suc 2 (h .0) in
     omega (arith, pow-pos (h .0), c .before .after .ensures)
 
-add-t16 : tie.Need-add-t16
-add-t16 c = omega (arith, own (c .before .before .before .before .before) .fine .most)
+add-t18 : tie.Need-add-t18
+add-t18 c = omega (arith, own (c .before .before .before .before .before .before) .fine .most)
 
-add-t17 : tie.Need-add-t17
-add-t17 c =
-    let v = own (c .before .before .before .before .before) in
+add-t19 : tie.Need-add-t19
+add-t19 c =
+    let v = own (c .before .before .before .before .before .before) in
     omega (arith, v .fine .most, v .fine .rest)
 
 returns-3 : tie.Need-returns-3
 returns-3 c =
-    let start = c .before .before .before .before .before in
+    let start = c .before .before .before .before .before .before in
     let a = start .args in
     let p = a .f .prefix in
     let q = a .f .remainder in (
@@ -105,20 +108,21 @@ returns-3 c =
             drop-drop p (a .c .at) bs,
             drop-drop q (a .c .at + p) bs,
           ),
-      omega (arith, own start .fine .some, c .raised .ensures .1),
+      (omega (arith, own start .fine .some, c .raised .ensures .1), refl),
     )
 
 pub value-of-spec : {M : Type 1} → statement M
 value-of-spec =
     tie.close
     (tie.spec
-    add-t11
+    add-compared
+    add-t13
     returns
     add-if2
     returns-2
     after-requires
     sub-raised
     raised-requires
-    add-t16
-    add-t17
+    add-t18
+    add-t19
     returns-3)

@@ -1,11 +1,15 @@
--- The values that are left fall; a cursor may be anywhere.
+-- The values that are left fall, and the cursor stays within the stream.
+use Prim.Native.Nat.{_*_}
+use mathlib.Core.Path.{subst}
 use native.Mathlib.Omega.{arith}
 use borrow.Author.Needs.{needs}
+use lib.ListN.{length}
+use Rattle.reading.specs.InnerCursor.{Within, Onward}
 use Rattle.streams.proofs.put_values.Statement.{statement}
 use Rattle.streams.proofs.put_values.Tie as tie
 
 abbrev Inv-loop : tie.InvT-loop
-Inv-loop stream tab count c₀ left₀ t8 c left = Unit {0}
+Inv-loop stream tab count c₀ left₀ t8 c left = Within (length stream * 8) c
 
 abbrev μ-loop : tie.MeasureT-loop
 μ-loop stream tab count c₀ left₀ t8 c left = left
@@ -14,7 +18,7 @@ new-requires : tie.Need-new-requires Inv-loop μ-loop
 new-requires c κs = search needs
 
 loop-holds : tie.Need-loop-holds Inv-loop μ-loop
-loop-holds c = tt
+loop-holds c = omega (arith, c .new .ensures)
 
 value-requires : tie.Need-value-requires Inv-loop μ-loop
 value-requires c κs = search needs
@@ -32,7 +36,10 @@ loop-less : tie.Need-loop-less Inv-loop μ-loop
 loop-less c = omega arith
 
 loop-again : tie.Need-loop-again Inv-loop μ-loop
-loop-again c = tt
+loop-again c =
+    let told = c .before .before in
+    let read = told .before .before in
+    subst (Onward (read .before .before .loop .c .at) _) (told .x .given .1) (read .value .ensures .1 .0) .1
 
 enum-told : tie.Need-enum-told Inv-loop μ-loop
 enum-told c = search needs
@@ -47,7 +54,7 @@ loop-less-2 : tie.Need-loop-less-2 Inv-loop μ-loop
 loop-less-2 c = omega arith
 
 loop-again-2 : tie.Need-loop-again-2 Inv-loop μ-loop
-loop-again-2 c = tt
+loop-again-2 c = c .before .before .before .before .before .before .loop .inv
 
 put-end-requires : tie.Need-put-end-requires Inv-loop μ-loop
 put-end-requires c κs = search needs

@@ -1,5 +1,5 @@
 -- The value that was read is that of the rule, and so is its sample, which is tested on both sides; nothing read is a fault.
-use Prim.Native.Nat.{ℕ, suc, _*_, _≤_, _<_}
+use Prim.Native.Nat.{ℕ, suc, _+_, _*_, _≤_, _<_}
 use mathlib.Core.Path.{_≡_, sym, ap, subst, _∙_}
 use mathlib.Core.List.{List}
 use mathlib.Core.Logic.{_⊎_, inl, inr}
@@ -12,13 +12,15 @@ use Rattle.samples.specs.Trace.{fault}
 use Rattle.tables.specs.declared.Structure.{Structure}
 use Rattle.compiled.specs.InnerForm.{CompiledOrNone}
 use Rattle.reading.specs.Reading.{gave, readNext}
-use Rattle.reading.specs.InnerCursor.{told, Onward}
+use Rattle.reading.specs.Compared.{comparedNext}
+use Rattle.reading.specs.InnerCursor.{told, Within, Onward, Summed}
+use Rattle.reading.proofs.Streams.{compared-more}
 use Rattle.traces.specs.Rebuilding.{rebuildFrom}
 use Rattle.traces.proofs.Laws.{from-sample, from-outside, from-stuck}
 use Rattle.traces.proofs.next_sample.Statement.{statement}
 use Rattle.traces.proofs.next_sample.Tie as tie
 
--- the value that was read
+-- the value that was read, and the structures compared for it
 read : (c : tie.After-known-told) →
     let a = c .before .before .before .before .before .before .args in
     let v = c .before .v .given .0 .0 in
@@ -26,13 +28,16 @@ read : (c : tie.After-known-told) →
     ((tables : List (List Structure)) → CompiledOrNone tables (a .tab .now)
     → gave (fromZero 131072 v) (d .table) (drop (d .at) (bitsIn (a .s .now)))
     ≡ readNext tables (a .c .table) (drop (a .c .at) (bitsIn (a .s .now))))
-    × ((a .c .at < d .at) × (d .at ≤ length (a .s .now) * 8) × (v < 262144))
+    × ((a .c .at < d .at) × Within (length (a .s .now) * 8) d × (v < 262144))
+    × ((tables : List (List Structure)) → CompiledOrNone tables (a .tab .now)
+    → d .compared ≡ a .c .compared + comparedNext tables (a .c .table) (drop (a .c .at) (bitsIn (a .s .now))))
 read c =
     let a = c .before .before .before .before .before .before .args in
     let said = c .before .before .before .value .ensures in
     let is = c .before .v .given .1 in (
       λ tables held. sym (ap (told (bitsIn (a .s .now))) is) ∙ said .0 tables held,
-      subst (Onward (a .c .at) (length (a .s .now) * 8)) is (said .1),
+      subst (Onward (a .c .at) (length (a .s .now) * 8)) is (said .1 .0),
+      λ tables held. subst (Summed _) is (said .1 .1 tables held),
     )
 
 value-requires : tie.Need-value-requires
@@ -62,10 +67,10 @@ outside c h tables left held =
     h
 
 returns : tie.Need-returns
-returns c = (outside (c .before) (inl (c .if1 .taken)), omega arith)
+returns c = (outside (c .before) (inl (c .if1 .taken)), (omega arith, λ tables left held. tt))
 
 returns-2 : tie.Need-returns-2
-returns-2 c = (outside (c .before .before) (inr (c .if2 .taken)), omega arith)
+returns-2 c = (outside (c .before .before) (inr (c .if2 .taken)), (omega arith, λ tables left held. tt))
 
 enum-told : tie.Need-enum-told
 enum-told c = search needs
@@ -83,7 +88,12 @@ returns-3 c =
           (y .ensures .0)
           (c .before .if1 .left)
           (c .if2 .left),
-      omega (arith, r .1),
+      (
+        omega (arith, r .1),
+        λ tables left held.
+            let more = compared-more tables left (a .c .table) (drop (a .c .at) (bitsIn (a .s .now))) (sym (r .0 tables held)) in
+            omega (arith, more, r .2 tables held),
+      ),
     )
 
 returns-4 : tie.Need-returns-4
@@ -93,7 +103,7 @@ returns-4 c =
       λ tables left held.
           from-stuck tables (a .order) left (a .place) (fromZero 32768 (a .last)) (fromZero 32768 (a .other)) (a .c .table) (drop (a .c .at) bits)
           (sym (ap (told bits) (c .enum-told .given .1)) ∙ c .before .before .value .ensures .0 tables held),
-      omega arith,
+      (omega arith, λ tables left held. tt),
     )
 
 pub next-sample-spec : {M : Type 1} → statement M

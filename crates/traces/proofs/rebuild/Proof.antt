@@ -1,5 +1,5 @@
 -- The stream is rebuilt to the samples that are in the room, before what is rebuilt from the cursor on.
-use Prim.Native.Nat.{suc, _+_, _-_, _*_, _≤_, _<_}
+use Prim.Native.Nat.{ℕ, suc, _+_, _-_, _*_, _≤_, _<_}
 use mathlib.Core.Path.{_≡_, refl, sym, subst, _∙_}
 use mathlib.Core.List.{List}
 use native.Mathlib.Omega.{arith}
@@ -12,21 +12,26 @@ use Rattle.bits.specs.InnerRaised.{fromZero}
 use Rattle.samples.specs.InnerTrace.{before}
 use Rattle.tables.specs.declared.Structure.{Structure}
 use Rattle.compiled.specs.InnerForm.{CompiledOrNone}
+use Rattle.reading.specs.Compared.{comparedFrom, comparedOf}
+use Rattle.reading.specs.InnerCursor.{Within}
+use Rattle.reading.specs.declared.Cursor.{Cursor}
 use Rattle.reading.proofs.Cursors.{length-left}
 use Rattle.traces.specs.Rebuilding.{rebuildFrom, rebuild}
-use Rattle.traces.specs.InnerTrace.{traceFrom, SampledWithin}
+use Rattle.traces.specs.InnerTrace.{traceFrom, SampledWithin, SampledSum}
 use Rattle.traces.specs.declared.Sampled.{Sampled}
 use Rattle.traces.specs.declared.Sampled.the-variants.{Sample, Fault}
-use Rattle.traces.proofs.Laws.{room-start, room-turn, room-fault, room-end, room-over}
+use Rattle.traces.proofs.Laws.{sum-start, sum-end, room-start, room-turn, room-fault, room-end, room-over}
 use Rattle.traces.proofs.rebuild.Statement.{statement}
 use Rattle.traces.proofs.rebuild.Tie as tie
 
 abbrev Inv-loop : tie.InvT-loop
 Inv-loop s tab order room₀ n c₀ last₀ other₀ j₀ room c last other j =
-    (j ≤ n) × (length room ≡ length room₀) × (c .at ≤ length s * 8) × (last < 65536) × (other < 65536)
+    (j ≤ n) × (length room ≡ length room₀) × Within (length s * 8) c × (last < 65536) × (other < 65536)
     × ((tables : List (List Structure)) → CompiledOrNone tables tab
     → rebuild tables order n (bitsIn s)
     ≡ before (take j room) (rebuildFrom tables order (n - j) j (fromZero 32768 last) (fromZero 32768 other) (c .table) (drop (c .at) (bitsIn s))))
+    × ((tables : List (List Structure)) → CompiledOrNone tables tab
+    → c .compared + comparedFrom tables (n - j) (c .table) (drop (c .at) (bitsIn s)) ≡ comparedOf tables n (bitsIn s))
 
 abbrev μ-loop : tie.MeasureT-loop
 μ-loop s tab order room₀ n c₀ last₀ other₀ j₀ room c last other j = n - j
@@ -39,13 +44,18 @@ loop-holds c =
     let a = c .before .before .before .args in (
       omega arith,
       refl,
-      omega arith,
+      omega (arith, c .new .ensures),
       omega arith,
       omega arith,
       λ tables held.
           room-start tables (a .order) (length (a .room .now)) (c .new .result .at) (c .new .result .table) (bitsIn (a .s .now))
           (c .new .ensures .0)
           (c .new .ensures .1),
+      λ tables held.
+          sum-start tables (length (a .room .now)) (c .new .result .at) (c .new .result .table) (c .new .result .compared) (bitsIn (a .s .now))
+          (c .new .ensures .0)
+          (c .new .ensures .1)
+          (c .new .ensures .2),
     )
 
 next-sample-requires : tie.Need-next-sample-requires Inv-loop μ-loop
@@ -69,19 +79,32 @@ step c r is tables held =
     let e : n - l .j ≡ suc (n - (l .j + 1)) = omega (arith, c .before) in
     rw (← is, c .next-sample .ensures .0 tables (n - (l .j + 1)) held) (rw e at (l .inv .5 tables held))
 
+-- so is the sum from the cursor of a sample on
+summed : (c : tie.After-next-sample Inv-loop μ-loop) →
+    let a = c .before .before .before .before .before .before .args in
+    let l = c .before .before .loop in
+    let n = length (a .room .now) in
+    (x : ℕ) (d : Cursor) → c .next-sample .result ≡ Sample x d → (tables : List (List Structure)) → CompiledOrNone tables (a .tab .now)
+    → d .compared + comparedFrom tables (n - (l .j + 1)) (d .table) (drop (d .at) (bitsIn (a .s .now))) ≡ comparedOf tables n (bitsIn (a .s .now))
+summed c x d is tables held =
+    let l = c .before .before .loop in
+    let n = length (c .before .before .before .before .before .before .args .room .now) in
+    let e : n - l .j ≡ suc (n - (l .j + 1)) = omega (arith, c .before) in
+    subst (SampledSum _ _) is (c .next-sample .ensures .1 .1 tables (n - (l .j + 1)) held) ∙ rw e at (l .inv .6 tables held)
+
 -- the sample that a step gave is of 16 bits, and its cursor is within the stream
 given : (c : tie.After-known-told Inv-loop μ-loop) →
     let bits = length (c .before .before .before .before .before .before .before .before .before .args .s .now) * 8 in
-    (c .before .x .given .0 .0 < 65536) × (c .before .x .given .0 .1 .0 .at ≤ bits)
+    (c .before .x .given .0 .0 < 65536) × Within bits (c .before .x .given .0 .1 .0)
 given c =
     let bits = length (c .before .before .before .before .before .before .before .before .before .args .s .now) * 8 in
-    subst (SampledWithin bits) (c .before .x .given .1) (c .before .before .before .next-sample .ensures .1)
+    subst (SampledWithin bits) (c .before .x .given .1) (c .before .before .before .next-sample .ensures .1 .0)
 
 lowered-requires : tie.Need-lowered-requires Inv-loop μ-loop
 lowered-requires c κs = omega (arith, given c .0)
 
-mul-t16 : tie.Need-mul-t16 Inv-loop μ-loop
-mul-t16 c = omega arith
+mul-t17 : tie.Need-mul-t17 Inv-loop μ-loop
+mul-t17 c = omega arith
 
 slice-set-from-room : tie.Need-slice-set-from-room Inv-loop μ-loop
 slice-set-from-room c = omega arith
@@ -115,6 +138,8 @@ loop-again c =
           x
           (omega (arith, told .before))
           (step told (Sample (c .before .before .x .given .0 .0) d) (c .before .before .x .given .1) tables held),
+      λ tables held.
+          summed told (c .before .before .x .given .0 .0) d (c .before .before .x .given .1) tables held,
     )
 
 enum-known-number : tie.Need-enum-known-number Inv-loop μ-loop
@@ -129,11 +154,10 @@ returns c =
     let a = told .before .before .before .before .before .before .args in
     let l = told .before .before .loop in
     let number = c .before .number .given .0 .0 in
-    let is = c .before .number .given .1 in (
-      λ tables held.
-          room-fault number (l .room) (subst (SampledWithin (length (a .s .now) * 8)) is (told .next-sample .ensures .1))
-          ∙ sym (step told (Fault number) is tables held),
-      l .inv .1,
+    let is = c .before .number .given .1 in
+    let some : 1 ≤ number = subst (SampledWithin (length (a .s .now) * 8)) is (told .next-sample .ensures .1 .0) in (
+      (λ tables held. room-fault number (l .room) some ∙ sym (step told (Fault number) is tables held), l .inv .1),
+      (λ tables held e. absurd (omega arith), omega arith),
     )
 
 mul-if1 : tie.Need-mul-if1 Inv-loop μ-loop
@@ -149,16 +173,20 @@ returns-2 : tie.Need-returns-2 Inv-loop μ-loop
 returns-2 c =
     let a = c .before .before .before .before .before .before .before .args in
     let l = c .before .before .before .loop in
-    let few = length-left (a .s .now) (l .c .at) in (
-      λ tables held.
-          room-end tables (a .order) (length (a .room .now) - l .j) (l .j) (fromZero 32768 (l .last)) (fromZero 32768 (l .other)) (l .c .table)
-          (drop (l .c .at) (bitsIn (a .s .now)))
-          (omega arith)
-          (l .room)
-          (omega (arith, few))
-          (omega arith)
-          ∙ sym (l .inv .5 tables held),
-      l .inv .1,
+    let few = length-left (a .s .now) (l .c .at) in
+    let rest = drop (l .c .at) (bitsIn (a .s .now)) in
+    let left = length (a .room .now) - l .j in (
+      (
+        λ tables held.
+            room-end tables (a .order) left (l .j) (fromZero 32768 (l .last)) (fromZero 32768 (l .other)) (l .c .table) rest
+            (omega arith)
+            (l .room)
+            (omega (arith, few))
+            (omega arith)
+            ∙ sym (l .inv .5 tables held),
+        l .inv .1,
+      ),
+      (λ tables held e. sum-end tables left (l .c .table) rest (omega arith) (l .inv .6 tables held), omega (arith, l .inv .2)),
     )
 
 same-length-3 : tie.Need-same-length-3 Inv-loop μ-loop
@@ -169,14 +197,17 @@ returns-3 c =
     let a = c .before .before .before .before .before .before .before .args in
     let l = c .before .before .before .loop in
     let many = length-left (a .s .now) (l .c .at) in (
-      λ tables held.
-          room-over tables (a .order) (length (a .room .now) - l .j) (l .j) (fromZero 32768 (l .last)) (fromZero 32768 (l .other)) (l .c .table)
-          (drop (l .c .at) (bitsIn (a .s .now)))
-          (omega arith)
-          (l .room)
-          (omega (arith, many))
-          ∙ sym (l .inv .5 tables held),
-      l .inv .1,
+      (
+        λ tables held.
+            room-over tables (a .order) (length (a .room .now) - l .j) (l .j) (fromZero 32768 (l .last)) (fromZero 32768 (l .other)) (l .c .table)
+            (drop (l .c .at) (bitsIn (a .s .now)))
+            (omega arith)
+            (l .room)
+            (omega (arith, many))
+            ∙ sym (l .inv .5 tables held),
+        l .inv .1,
+      ),
+      (λ tables held e. absurd (omega arith), omega arith),
     )
 
 pub rebuild-spec : {M : Type 1} → statement M
@@ -190,7 +221,7 @@ rebuild-spec =
     next-sample-requires
     enum-known-x
     lowered-requires
-    mul-t16
+    mul-t17
     slice-set-from-room
     add-j
     loop-less

@@ -12,6 +12,8 @@ pub struct Edge {
     pub opened: u8,
     /// The result of reading its first lead, with room enough; `None` for records at the edge of opening.
     pub read: Option<u8>,
+    /// The structures compared in reading it, where they are worked out.
+    pub compared: Option<u32>,
     /// Its bytes.
     pub record: Vec<u8>,
 }
@@ -27,6 +29,7 @@ impl Edges {
             name: name.into(),
             opened: refusal,
             read: None,
+            compared: None,
             record,
         });
     }
@@ -37,6 +40,7 @@ impl Edges {
             name: name.into(),
             opened: 0,
             read: Some(refusal),
+            compared: None,
             record: draft.lay_out(),
         });
     }
@@ -46,6 +50,14 @@ impl Edges {
         let mut draft = headed();
         rhythm.put(&mut draft);
         self.read(refusal, name, &draft);
+    }
+
+    /// Adds a record with these sections, whose first lead is read with so many structures compared.
+    pub fn compared(&mut self, compared: u32, name: impl Into<String>, rhythm: &Rhythm) {
+        self.rhythm(0, name, rhythm);
+        if let Some(edge) = self.0.last_mut() {
+            edge.compared = Some(compared);
+        }
     }
 }
 

@@ -17,6 +17,8 @@ pub fn add(edges: &mut Edges) {
     differences(edges);
     beats(edges);
     order_of_faults(edges);
+    compared(edges);
+    compared_with_a_beat(edges);
 }
 
 /// A lead of `count` samples by this Section 2, empty if there is none, with this stream; the second lead stays sound or not.
@@ -296,4 +298,59 @@ fn order_of_faults(edges: &mut Edges) {
         let name = format!("{values:?} and {extra} bytes for three samples");
         edges.rhythm(refusal, name, &lead(&[], 1, 3, stream));
     }
+}
+
+/// The places of the codes' structures in their tables: the first, the last, those after a switch, and with a switch among
+/// the bits left over, which is not read.
+fn compared(edges: &mut Edges) {
+    let last = |code| {
+        let eight_bits = (0..63).map(|k| value(format!("11{k:06b}"), k));
+        eight_bits.chain([code]).collect::<Vec<_>>()
+    };
+    let values = tables(&[last(value("0", 5))]);
+    let switching = tables(&[last(switch("0", 2)), last(value("10", 6))]);
+    let own = tables(&[vec![value("10", 3), value("11", 4), switch("0", 1)]]);
+    for (sum, tables, count, letters) in [
+        (1, &DEFAULT_TABLE[..], 1, "0"),
+        (17, &DEFAULT_TABLE, 1, "1111111101"),
+        (18, &DEFAULT_TABLE, 1, "1111111110 00000000"),
+        (19, &DEFAULT_TABLE, 1, "1111111111 0000000000000000"),
+        (1 + 2 + 3, &DEFAULT_TABLE, 3, "0 100 101"),
+        (64, &values, 1, "0"),
+        (63, &values, 1, "11111110"),
+        (3 * 64, &values, 3, "0 0 0"),
+        (64 + 64, &switching, 1, "0 10"),
+        (64 + 1, &switching, 1, "0 11000000"),
+        (64 + 64 + 1, &switching, 2, "0 10 11000000"),
+        (1, &own, 1, "10"),
+        (3 + 1, &own, 1, "0 10"),
+        (3 + 3 + 1, &own, 1, "0 0 10"),
+        (3 + 1 + 3 + 2, &own, 2, "0 10 0 11"),
+        (2, &own, 1, "11 0 0 0 0 0 0 10000000"),
+    ] {
+        let name = format!("{letters} for {count} samples, {sum} structures compared");
+        edges.compared(sum, name, &lead(tables, 0, count, bits(letters)));
+    }
+    let plain = lead(&[], 0, 3, two_bytes(&[7, -8, 9]));
+    edges.compared(0, "nothing compared without Section 2", &plain);
+}
+
+/// The same of the beat's five codes and the residual's three, however many zones use the beat.
+fn compared_with_a_beat(edges: &mut Edges) {
+    let (beat, residual) = (bits("100 0 0 0 101"), bits("1100 0 0"));
+    let one_zone = beaten_by(&DEFAULT_TABLE, beat, residual, [0, 0]);
+    for (name, qrs) in [
+        ("no zone", vec![]),
+        ("one zone", vec![zone(2, 3, 2)]),
+        ("two zones", vec![zone(2, 3, 2), zone(3, 3, 3)]),
+    ] {
+        let mut rhythm = one_zone.clone();
+        if let Some(beat) = &mut rhythm.beat {
+            beat.qrs = qrs;
+        }
+        let sum = (2 + 1 + 1 + 1 + 3) + (4 + 1 + 1);
+        edges.compared(sum, format!("structures compared with {name}"), &rhythm);
+    }
+    let plain = beaten(&[1; 5], &[1; 3], [0, 0]);
+    edges.compared(0, "nothing compared for a beat without Section 2", &plain);
 }

@@ -137,7 +137,7 @@ fn job_of<'a>(job: &Writing<'a>) -> scp::Job<'a> {
 }
 
 /// Asks that the library's own calls give back what was to be written: the fields byte for byte, and each lead with its first
-/// sample number, ID, flags, step, interval, order and samples.
+/// sample number, ID, flags, step, interval, order and samples. As many structures are compared as by the judge.
 pub fn read_back(job: &Writing, record: &[u8], counts: &mut Counts) -> Result<(), Difference> {
     let opened =
         scp::open(record).map_err(|refusal| format!("what is written opens: {refusal}"))?;
@@ -180,6 +180,7 @@ fn lead_read_back(
     let refused = |refusal: scp::Refusal| refusal.to_string();
     let entry = scp::lead(record, at + 1).map_err(refused)?;
     let (read, back) = scp::samples(record, at + 1).map_err(refused)?;
+    let judged = judge::read_lead(record, at + 1, samples.len(), 0);
     let right = scp::Lead {
         id: job.ids[at],
         flags: job.flags & 0xFE,
@@ -187,6 +188,7 @@ fn lead_read_back(
         interval: job.interval,
         first: job.firsts[at],
         count: samples.len(),
+        compared: judged.map_or(0, |lead| lead.compared),
     };
     same("read", read, right)?;
     let last = job.firsts[at] + (job.counts[at] - 1);

@@ -42,7 +42,7 @@ pub fn run(paths: Vec<PathBuf>, asked: Asked, jobs: Option<u16>, output: &mut Ou
     };
     let take = |file: &Path, judged: Judged, tally: &mut Tally, output: &mut Output| {
         show(file, &judged, asked, output);
-        count(&judged, tally);
+        count(file, &judged, tally);
     };
     let tally = many.each(Room::default, check, take, output);
     conclude(&tally, asked, output)
@@ -67,9 +67,9 @@ fn check(room: &mut Room, file: &Path) -> io::Result<Judged> {
 }
 
 /// Counts a file.
-fn count(judged: &Judged, tally: &mut Tally) {
+fn count(file: &Path, judged: &Judged, tally: &mut Tally) {
     match judged.verdict {
-        Verdict::Accepted { .. } => tally.accepted += 1,
+        Verdict::Accepted { compared, .. } => tally.accept(file, compared),
         Verdict::Refused { refusal, .. } => tally.refuse(refusal),
     }
 }
@@ -99,7 +99,8 @@ fn as_json(file: &Path, judged: &Judged) -> String {
     json::line(&about.holding(json::Counted::of(judged.verdict)))
 }
 
-/// Shows how many files were accepted, refused with each number, and not read. The worst of them is the status.
+/// Shows how many files were accepted, refused with each number, and not read, and the busiest record. The worst of the files is
+/// the status.
 fn conclude(tally: &Tally, asked: Asked, output: &mut Output) -> Status {
     match asked.json {
         true => output.line(json::line(&json::Summary::new(tally))),
@@ -116,4 +117,5 @@ fn summarise(tally: &Tally, output: &mut Output) {
     output.block();
     output.line(tally);
     output.lines(tally.table());
+    output.lines(&tally.busiest);
 }

@@ -14,13 +14,19 @@ use crate::paths::shown;
 use crate::refused::{self, Refused};
 use crate::status::Status;
 use crate::table::{self, numbers, words, Column};
+use crate::text::parted;
 use crate::verdict::{Room, Verdict};
 
 /// The last rule that is asked alone.
 const ALONE: Refusal = Refusal::BIMODAL_STEP_INTERVAL;
 
 const RULES: [Column; 3] = [numbers("Rule"), words(""), words("Answer")];
-const LEADS: [Column; 3] = [numbers("Lead"), words(""), words("Answer")];
+const LEADS: [Column; 4] = [
+    numbers("Lead"),
+    words(""),
+    words("Answer"),
+    numbers("Structures compared"),
+];
 
 /// The library's answer to a rule, asked alone.
 struct Answer {
@@ -33,11 +39,11 @@ struct Answer {
     found: Vec<String>,
 }
 
-/// The answer to reading a lead.
+/// The answer to reading a lead: how many structures were compared, or the refusal.
 struct Read {
     place: usize,
     entry: Entry,
-    refusal: Option<Refusal>,
+    answer: Result<u32, Refusal>,
 }
 
 /// All that was asked of a record.
@@ -97,9 +103,9 @@ impl Answer {
 
 impl Read {
     fn words(&self) -> String {
-        match self.refusal {
-            Some(refusal) => format!("refused, number {}", refusal.number()),
-            None => "accepted".to_string(),
+        match self.answer {
+            Ok(_) => "accepted".to_string(),
+            Err(refusal) => format!("refused, number {}", refusal.number()),
         }
     }
 }
@@ -140,7 +146,7 @@ fn leads(record: &[u8]) -> Vec<Read> {
     let read = |(place, entry)| Read {
         place,
         entry,
-        refusal: room.read(record, place).err(),
+        answer: room.read(record, place).map(|(lead, _)| lead.compared),
     };
     (1..).zip(entries).map(read).collect()
 }
@@ -230,7 +236,7 @@ impl<'a> Report<'a> {
             }
         }
         for lead in &self.leads {
-            if let Some(refusal) = lead.refusal {
+            if let Err(refusal) = lead.answer {
                 output.block();
                 let (place, name) = (lead.place, names::lead(lead.entry.id));
                 output.line(format_args!("Lead {place}, {name}: {}", lead.words()));
@@ -251,8 +257,8 @@ impl<'a> Report<'a> {
         };
         let lead = |lead: &Read| {
             let refused = |refusal| Refused::of(self.input, lead.place, refusal);
-            let refused = lead.refusal.map(refused);
-            json::Lead::new(lead.place, &lead.entry).answered(refused.as_ref())
+            let answer = lead.answer.map_err(refused);
+            json::Lead::new(lead.place, &lead.entry).answered(answer.as_ref().copied())
         };
         let report = json::Report {
             counted: json::Counted::of(self.verdict),
@@ -273,10 +279,12 @@ fn rule_row(answer: &Answer) -> [String; 3] {
 }
 
 /// A lead's row of the table.
-fn lead_row(lead: &Read) -> [String; 3] {
+fn lead_row(lead: &Read) -> [String; 4] {
+    let compared = lead.answer.map(|compared| parted(&compared.to_string()));
     [
         lead.place.to_string(),
         names::lead(lead.entry.id),
         lead.words(),
+        compared.unwrap_or_default(),
     ]
 }

@@ -15,7 +15,7 @@ use crate::output::Output;
 use crate::paths::shown;
 use crate::refused::{self, Refused};
 use crate::status::Status;
-use crate::text::how_many;
+use crate::text::{compared, how_many};
 use crate::verdict::Room;
 
 /// How many samples a line of text shows.
@@ -125,6 +125,7 @@ fn unread(entry: &Entry) -> Lead {
         interval: entry.interval,
         first: entry.first,
         count: entry.count(),
+        compared: 0,
     }
 }
 
@@ -174,7 +175,7 @@ fn summary(Asked { leads, all }: &Asked) -> String {
     }
 }
 
-/// Shows a lead's samples, some in a line, each line with the number of its first.
+/// Shows a lead's samples, some in a line, each line with the number of its first, below what else was read.
 fn show(lead: &Read, samples: &[i16], output: &mut Output) {
     let Lead {
         first,
@@ -182,9 +183,9 @@ fn show(lead: &Read, samples: &[i16], output: &mut Output) {
         interval,
         ..
     } = lead.lead;
-    let last = lead.last();
+    let (last, compared) = (lead.last(), compared(lead.lead.compared as usize));
     output.line(format_args!(
-        "{}: samples {first} to {last}, in steps of {step} nV, {interval} us apart",
+        "{}: samples {first} to {last}, in steps of {step} nV, {interval} us apart; {compared}",
         lead.title()
     ));
     let label = last.to_string().len();
@@ -280,7 +281,9 @@ fn as_json(
         .find_map(|lead| Some((lead.place, refused(lead)?)));
     let (place, first) = first.unzip();
     let lead = |(lead, entry): (&Read, &Entry)| {
-        let told = json::Lead::new(lead.place, entry).answered(refused(lead).as_ref());
+        let refused = refused(lead);
+        let answer = refused.as_ref().map_or(Ok(lead.lead.compared), Err);
+        let told = json::Lead::new(lead.place, entry).answered(answer);
         match &lead.samples {
             Ok(samples) => told.with(samples),
             Err(_) => told,
@@ -309,6 +312,7 @@ mod tests {
                 interval: 2000,
                 first,
                 count: samples.len(),
+                compared: 0,
             },
             samples: Ok(samples.to_vec()),
         }

@@ -1,4 +1,4 @@
-//! The leads of a record: how many, what it says of each, and their samples.
+//! The leads of a record: how many, what it says of each, their samples, and how many structures were compared for them.
 
 use scp::Entry;
 use serde::Serialize;
@@ -13,13 +13,18 @@ use crate::verdict::Verdict;
 #[derive(Serialize)]
 pub struct Counted {
     lead_count: usize,
+    /// The structures compared, over all leads.
+    compared: usize,
 }
 
 impl Counted {
-    /// How many leads a record has, if it was accepted.
+    /// How many leads a record has, and how many structures were compared for them, if it was accepted.
     pub fn of(verdict: Verdict) -> Option<Counted> {
         match verdict {
-            Verdict::Accepted { leads } => Some(Counted { lead_count: leads }),
+            Verdict::Accepted { leads, compared } => Some(Counted {
+                lead_count: leads,
+                compared,
+            }),
             Verdict::Refused { .. } => None,
         }
     }
@@ -64,6 +69,9 @@ pub struct Lead {
     /// Absent where the lead's stream was not read.
     #[serde(flatten)]
     decision: Option<Decision>,
+    /// The structures compared, where the stream was read and the lead is not refused.
+    #[serde(skip_serializing_if = "Option::is_none")]
+    compared: Option<u32>,
     /// In one line, however many there are.
     #[serde(skip_serializing_if = "Option::is_none")]
     samples: Option<Box<RawValue>>,
@@ -82,13 +90,15 @@ impl Lead {
             bytes: entry.bytes,
             bits_a_sample: bits_in_hundredths(entry) as f64 / 100.0,
             decision: None,
+            compared: None,
             samples: None,
         }
     }
 
-    /// The same with its refusal, or without one, its stream having been read.
-    pub fn answered(mut self, refused: Option<&Refused>) -> Lead {
-        self.decision = Some(Decision::of(refused));
+    /// The same with how many structures were compared in reading its stream, or with its refusal.
+    pub fn answered(mut self, answer: Result<u32, &Refused>) -> Lead {
+        self.decision = Some(Decision::of(answer.err()));
+        self.compared = answer.ok();
         self
     }
 

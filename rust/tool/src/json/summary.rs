@@ -4,9 +4,10 @@ use std::collections::BTreeMap;
 
 use serde::Serialize;
 
+use super::about::Name;
 use super::index::Indexed;
 use crate::refused;
-use crate::tally::Tally;
+use crate::tally::{self, Tally};
 
 /// How many files fared how, as the last line of many.
 #[derive(Serialize)]
@@ -28,6 +29,9 @@ struct Counts {
     interrupted: bool,
     passed_over: PassedOver,
     by_number: BTreeMap<u8, usize>,
+    /// Absent where no record had a structure compared.
+    #[serde(skip_serializing_if = "Option::is_none")]
+    busiest: Option<Busiest>,
 }
 
 /// Entries of folders that were passed over.
@@ -35,6 +39,23 @@ struct Counts {
 struct PassedOver {
     links: usize,
     special_files: usize,
+}
+
+/// The record that the most structures were compared for.
+#[derive(Serialize)]
+struct Busiest {
+    #[serde(flatten)]
+    name: Name,
+    compared: usize,
+}
+
+impl From<&tally::Busiest> for Busiest {
+    fn from(busiest: &tally::Busiest) -> Busiest {
+        Busiest {
+            name: Name::of(&busiest.file),
+            compared: busiest.compared,
+        }
+    }
 }
 
 impl Summary {
@@ -52,6 +73,7 @@ impl Summary {
                     special_files: tally.special_files,
                 },
                 by_number: tally.by_number().collect(),
+                busiest: tally.busiest.as_ref().map(Busiest::from),
             },
             index: None,
             note: (tally.refused() > 0).then_some(refused::NOTE),

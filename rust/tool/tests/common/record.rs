@@ -1,4 +1,9 @@
-//! Changing records.
+//! Changing records, and what is needed to make one.
+
+/// The data of a Section 1 with the fields that it must have.
+pub const FIELDS: [u8; 24] = [
+    2, 2, 0, b'7', 0, 14, 0, 0, 25, 4, 0, 0xE8, 7, 3, 14, 26, 3, 0, 9, 26, 53, 255, 0, 0,
+];
 
 /// Where a section starts.
 pub fn section(record: &[u8], id: usize) -> usize {

@@ -1,7 +1,7 @@
 -- A form that was found is that of the structure that is matched: a value's ends the step, and a switch's is followed, which carries on
 -- as the rule does. The measure is twice the bits that are left, and one more for `burst`, which hands on at the same place.
 use Prim.Native.Nat.{ℕ, _+_, _-_, _*_, _<_}
-use mathlib.Core.Path.{_≡_, refl, sym, ap, _∙_}
+use mathlib.Core.Path.{_≡_, refl, sym, ap, subst, _∙_}
 use mathlib.Core.List.{List}
 use native.Mathlib.Nat.{pos-of-ne-zero}
 use native.Mathlib.Omega.{arith}
@@ -12,7 +12,7 @@ use lib.ListN.{length, drop}
 use Rattle.bits.specs.Bits.{bitsIn}
 use Rattle.tables.specs.declared.Structure.{Structure}
 use Rattle.compiled.specs.InnerForm.{Compiled}
-use Rattle.reading.specs.InnerCursor.{Seen, foundIn}
+use Rattle.reading.specs.InnerCursor.{Seen, foundIn, SummedOf}
 use Rattle.reading.proofs.Laws.{read-none}
 use Rattle.reading.proofs.Cursors.{length-left, seen-left, found-none, FoundForm, found-form, read-form, read-on, onward-of-from}
 use Rattle.reading.proofs.Cursor.burst.Reads as burst
@@ -89,12 +89,15 @@ module _ (t : ℕ) where
   found : (c : burst-lts.After-f (burst-calls t) (burst-at t) burst.Post) →
       let a = c .before .before .before .before .before .before .before .args in
       (tables : List (List Structure)) → Compiled tables (a .tab .now)
-      → FoundForm tables (a .self .table) (drop (a .self .at) (bitsIn (a .s .now))) (c .f .given .0 .0)
+      → FoundForm tables (a .self .table) (drop (a .self .at) (bitsIn (a .s .now))) (c .f .given .0 .0) (c .f .given .0 .1 .0)
   found c tables ready =
       let a = c .before .before .before .before .before .before .before .args in
       let bs = drop (a .self .at) (bitsIn (a .s .now)) in
-      found-form ready (a .self .table) (omega arith) (omega arith) bs (c .f .given .0 .0)
-      (sym (ap foundIn (c .f .given .1)) ∙ c .before .before .find .ensures tables bs ready (seen (c .before .before .before)))
+      let find = c .before .before .find in
+      let sees = seen (c .before .before .before) in
+      found-form ready (a .self .table) (omega arith) (omega arith) bs (find .result) (c .f .given .0 .0) (c .f .given .0 .1 .0) (c .f .given .1)
+      (find .ensures .0 tables bs ready sees)
+      (find .ensures .1 tables bs ready sees)
 
   burst-value-of-requires : burst-lts.Need-value-of-requires (burst-calls t) (burst-at t) burst.Post
   burst-value-of-requires c κs =
@@ -102,6 +105,8 @@ module _ (t : ℕ) where
       let d = found (c .before .before .before) (start .pre .1 .0 .0) (start .pre .1 .0 .1) in (
         (d .structure, d .form, d .right, c .if1 .taken),
         omega (arith, d .long, length-left (start .args .s .now) (start .args .self .at)),
+        omega arith,
+        d .few,
         omega arith,
       )
 
@@ -114,8 +119,13 @@ module _ (t : ℕ) where
             let d = found (c .before .before .before .before) tables ready in
             c .value-of .ensures .0 (d .structure) (bitsIn (a .s .now)) (d .form) (d .right) (d .small)
             (seen (c .before .before .before .before .before .before .before))
-            ∙ sym (read-form (ready .right) d (c .before .if1 .taken)),
-        rw all at (c .value-of .ensures .1),
+            ∙ sym (read-form (ready .right) d (c .before .if1 .taken) .0),
+        (
+          rw all at (c .value-of .ensures .1 .0),
+          λ tables ready.
+              let d = found (c .before .before .before .before) tables ready in
+              rw (read-form (ready .right) d (c .before .if1 .taken) .1) (c .value-of .ensures .1 .1),
+        ),
       )
 
   burst-follow-requires : burst-lts.Need-follow-requires (burst-calls t) (burst-at t) burst.Post
@@ -124,7 +134,7 @@ module _ (t : ℕ) where
       let d = found (c .before .before .before) (start .pre .1 .0 .0) (start .pre .1 .0 .1) in
       let n = length-left (start .args .s .now) (start .args .self .at) in
       let on = pos-of-ne-zero (c .if1 .left) in
-      (omega arith, (start .pre .1 .0, omega arith, omega arith, omega (arith, d .fine .some, d .long, d .fine .to)))
+      (omega arith, (start .pre .1 .0, omega arith, omega arith, omega (arith, d .fine .some, d .long, d .fine .to), d .few))
 
   burst-enum-told : burst-lts.Need-enum-told (burst-calls t) (burst-at t) burst.Post
   burst-enum-told c = search needs
@@ -134,8 +144,14 @@ module _ (t : ℕ) where
       let a = c .before .before .before .before .before .before .before .before .before .before .before .args in (
         λ tables ready.
             let d = found (c .before .before .before .before) tables ready in
-            rw (read-on (ready .right) (a .self .at) (bitsIn (a .s .now)) d (c .before .if1 .left)) (c .follow .ensures .0 tables ready),
-        c .follow .ensures .1,
+            rw (read-on (ready .right) (a .self .at) (bitsIn (a .s .now)) d (c .before .if1 .left) .0) (c .follow .ensures .0 tables ready),
+        (
+          c .follow .ensures .1 .0,
+          λ tables ready.
+              let d = found (c .before .before .before .before) tables ready in
+              let on = read-on (ready .right) (a .self .at) (bitsIn (a .s .now)) d (c .before .if1 .left) .1 in
+              subst (λ (n : ℕ). SummedOf tables (bitsIn (a .s .now)) n (c .follow .result)) (omega (arith, on)) (c .follow .ensures .1 .1 tables ready),
+        ),
       )
 
   burst-returns-3 : burst-lts.Need-returns-3 (burst-calls t) (burst-at t) burst.Post
@@ -143,17 +159,20 @@ module _ (t : ℕ) where
       let a = c .before .before .before .before .before .before .before .args in
       let bs = drop (a .self .at) (bitsIn (a .s .now)) in (
         λ tables ready.
-            let looked = c .before .before .find .ensures tables bs ready (seen (c .before .before .before)) in
+            let looked = c .before .before .find .ensures .0 tables bs ready (seen (c .before .before .before)) in
             let none = found-none tables (a .self .table) bs (omega arith) (sym (ap foundIn (c .enum-told .given .1)) ∙ looked) in
             sym (read-none (length tables) tables (ready .right) (a .self .table) bs none),
-        tt,
+        (tt, λ tables ready. tt),
       )
 
   follow-add-burst : follow-lts.Need-add-burst (burst-below t, burst.Post) (follow-at t) follow.Post
   follow-add-burst c = omega arith
 
+  follow-add-t13 : follow-lts.Need-add-t13 (burst-below t, burst.Post) (follow-at t) follow.Post
+  follow-add-t13 c = omega arith
+
   follow-returns : follow-lts.Need-returns (burst-below t, burst.Post) (follow-at t) follow.Post
-  follow-returns c = (λ tables ready. refl, omega arith)
+  follow-returns c = (λ tables ready. refl, (omega arith, λ tables ready. refl))
 
   follow-sub-burst : follow-lts.Need-sub-burst (burst-below t, burst.Post) (follow-at t) follow.Post
   follow-sub-burst c = pos-of-ne-zero (c .if1 .left)
@@ -165,8 +184,11 @@ module _ (t : ℕ) where
   follow-returns-2 c =
       let a = c .before .before .before .before .args in (
         c .burst .ensures .0,
-        onward-of-from (a .self .at) (a .self .at + a .f .prefix) (length (a .s .now) * 8) (omega arith) (c .burst .result)
-            (c .burst .ensures .1),
+        (
+          onward-of-from (a .self .at) (a .self .at + a .f .prefix) (length (a .s .now) * 8) (omega arith) (c .burst .result)
+              (c .burst .ensures .1 .0),
+          c .burst .ensures .1 .1,
+        ),
       )
 
 pub +burst+follow-spec : {M : Type 1} → statement M
@@ -194,6 +216,7 @@ pub +burst+follow-spec : {M : Type 1} → statement M
     (follow-at t)
     follow.Post
     (follow-add-burst t)
+    (follow-add-t13 t)
     (follow-returns t)
     (follow-sub-burst t)
     (follow-burst-requires t)

@@ -50,7 +50,7 @@ unfolding readPlain
 returns c =
     let a = c .before .before .args in
     let l = drop (a .self .at) (bitsIn (a .s .now)) in
-    (simp (lt-leb 16 (length l) (omega (arith, length-left (a .s .now) (a .self .at)))), tt)
+    (simp (lt-leb 16 (length l) (omega (arith, length-left (a .s .now) (a .self .at)))), (tt, tt))
 
 window-requires : tie.Need-window-requires
 window-requires c κs = search needs
@@ -70,8 +70,8 @@ add-n c = omega (arith, bytes c)
 raised-requires : tie.Need-raised-requires
 raised-requires c κs = omega (arith, bytes c)
 
-add-t9 : tie.Need-add-t9
-add-t9 c = search needs
+add-t10 : tie.Need-add-t10
+add-t10 c = search needs
 
 returns-2 : tie.Need-returns-2
 unfolding readPlain
@@ -81,7 +81,7 @@ returns-2 c =
     let b = bytes (c .before) in
     let n = length-left (a .s .now) (a .self .at) in (
       rw (c .raised .ensures .0 15 refl, b .0, b .1, le-leb 16 (length (drop (a .self .at) l)) (omega arith), drop-drop 16 (a .self .at) l),
-      omega (arith, c .raised .ensures .1),
+      (omega (arith, c .raised .ensures .1), refl),
     )
 
 pub plain-spec : {M : Type 1} → statement M
@@ -97,5 +97,5 @@ plain-spec =
     mul-n
     add-n
     raised-requires
-    add-t9
+    add-t10
     returns-2)
