@@ -185,32 +185,29 @@ module _ (r : List ℕ) (k : ℕ) (right : tablesRight r ≡ true) where
       go true = omega (arith, few r 5 (beatSampleCount r) k right .0, few r 6 (sampleCountAt r k) k right .0)
       go false = omega (arith, few r 6 (sampleCountAt r k) k right .0)
 
-  most-bits : areBytes r ≡ true → bitsReadAt r k ≤ streamsRead r * mostStreamBits
-  unfolding bitsReadAt overStreams
-  most-bits bytes = go (beatSubtracted r)
-    where
-      own : (section count : ℕ) → streamBits r section count k ≤ mostStreamBits
-      own section count = omega (arith, few r section count k right .1, stream-bits r section k bytes)
+-- where each stream has no more than so many, all streams have no more than that for each
+over-most : (of : ℕ → ℕ → ℕ → ℕ) (r : List ℕ) (k most : ℕ) → ((section count : ℕ) → of section count k ≤ most)
+    → overStreams of r k ≤ streamsRead r * most
+unfolding overStreams
+over-most of r k most own = go (beatSubtracted r)
+  where
+    go : (b : Bool) → cond b (of 5 (beatSampleCount r) k) 0 + of 6 (sampleCountAt r k) k ≤ cond b 2 1 * most
+    go true = omega (arith, own 5 (beatSampleCount r), own 6 (sampleCountAt r k))
+    go false = omega (arith, own 6 (sampleCountAt r k))
 
-      go : (b : Bool)
-          → cond b (streamBits r 5 (beatSampleCount r) k) 0 + streamBits r 6 (sampleCountAt r k) k ≤ cond b 2 1 * mostStreamBits
-      go true = omega (arith, own 5 (beatSampleCount r), own 6 (sampleCountAt r k))
-      go false = omega (arith, own 6 (sampleCountAt r k))
+most-bits : (r : List ℕ) (k : ℕ) → tablesRight r ≡ true → areBytes r ≡ true → bitsReadAt r k ≤ streamsRead r * mostStreamBits
+unfolding bitsReadAt
+most-bits r k right bytes =
+    over-most (streamBits r) r k mostStreamBits
+    (λ section count. omega (arith, few r section count k right .1, stream-bits r section k bytes))
 
 -- without Section 2 there are no tables
 none-at : (r : List ℕ) (k : ℕ) → present r 2 ≡ false → comparedAt r k ≡ 0
-unfolding comparedAt overStreams streamCompared comparedOf tablesOf
-none-at r k absent = rw absent (go (beatSubtracted r))
-  where
-    own : (section count : ℕ) → comparedFrom [] count 1 (bitsIn (streamIn r section k)) ≡ 0
-    own section count = compared-none count 1 (bitsIn (streamIn r section k))
-
-    go : (b : Bool)
-        → cond b (comparedFrom [] (beatSampleCount r) 1 (bitsIn (streamIn r 5 k))) 0
-        + comparedFrom [] (sampleCountAt r k) 1 (bitsIn (streamIn r 6 k))
-        ≡ 0
-    go true = omega (arith, own 5 (beatSampleCount r), own 6 (sampleCountAt r k))
-    go false = omega (arith, own 6 (sampleCountAt r k))
+unfolding comparedAt streamCompared comparedOf tablesOf
+none-at r k absent =
+    let own : (section count : ℕ) → streamCompared r section count k ≤ 0 =
+    λ section count. rw absent (omega (arith, compared-none count 1 (bitsIn (streamIn r section k)))) in
+    omega (arith, over-most (streamCompared r) r k 0 own)
 
 -- ---- what reading a lead answers
 

@@ -1,5 +1,5 @@
 -- How many structures reading a lead compares, and how many bits it reads (01, Leads and samples; Q-6), over the bytes r of a record;
--- lead k counts from 0 here. Of a lead that is refused nothing of this is reported, and it says nothing.
+-- lead k counts from 0 here. None of it is reported of a lead that is refused, where it means nothing.
 use Prim.Native.Nat.{ℕ, _+_}
 use mathlib.Core.Bool.{cond}
 use mathlib.Core.List.{List}

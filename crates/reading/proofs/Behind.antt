@@ -22,52 +22,37 @@ use Rattle.reading.specs.Compared.{comparedIn, comparedCoded, comparedNe
 use Rattle.reading.proofs.Laws.{matched, table-there, falls, read-switch, read-value, read-none, compared-switch, compared-value, gave-value, gave-table, gave-rest}
 use Rattle.reading.proofs.Trip.{matching-own, compared-own}
 
--- two bytes
+-- two bytes, and what is left of the bits
 plain-behind : (t : ℕ) (bs z : List ℕ) (v : ℤ) (u : ℕ) (rest : List ℕ) → readPlain t bs ≡ gave v u rest
-    → readPlain t (bs ++ z) ≡ gave v u (rest ++ z)
+    → (readPlain t (bs ++ z) ≡ gave v u (rest ++ z)) × (length rest ≤ length bs)
 unfolding readPlain
 plain-behind t bs z v u rest h = go (decLe 16 (length bs))
   where
-    go : Dec (16 ≤ length bs) → readPlain t (bs ++ z) ≡ gave v u (rest ++ z)
+    go : Dec (16 ≤ length bs) → (readPlain t (bs ++ z) ≡ gave v u (rest ++ z)) × (length rest ≤ length bs)
     go (yes l) =
         let g = rw (le-leb 16 (length bs) l) at h in
         let m = le-leb 16 (length (bs ++ z)) (omega (arith, length-append bs z)) in
-        let d : take 8 (drop 8 bs ++ z) ≡ take 8 (drop 8 bs) = take-append-le 8 (drop 8 bs) z (omega (arith, length-drop 8 bs)) in
-        rw (m, take-append-le 8 bs z (omega arith), drop-append-le 8 bs z (omega arith), d, drop-append-le 16 bs z l)
-        (rw (gave-value g, gave-table g, gave-rest g))
+        let d : take 8 (drop 8 bs ++ z) ≡ take 8 (drop 8 bs) = take-append-le 8 (drop 8 bs) z (omega (arith, length-drop 8 bs)) in (
+          rw (m, take-append-le 8 bs z (omega arith), drop-append-le 8 bs z (omega arith), d, drop-append-le 16 bs z l)
+              (rw (gave-value g, gave-table g, gave-rest g)),
+          omega (arith, length-drop 16 bs, ap length (gave-rest g)),
+        )
     go (no l) = let g = rw (lt-leb 16 (length bs) (omega arith)) at h in unlike cc
 
--- what is left is no more than the bits were
-plain-left : (t : ℕ) (bs : List ℕ) (v : ℤ) (u : ℕ) (rest : List ℕ) → readPlain t bs ≡ gave v u rest → length rest ≤ length bs
-unfolding readPlain
-plain-left t bs v u rest h = go (decLe 16 (length bs))
-  where
-    go : Dec (16 ≤ length bs) → length rest ≤ length bs
-    go (yes l) = omega (arith, length-drop 16 bs, ap length (gave-rest (rw (le-leb 16 (length bs) l) at h)))
-    go (no l) = let g = rw (lt-leb 16 (length bs) (omega arith)) at h in unlike cc
-
--- a value behind its prefix
+-- so is a value behind its prefix
 value-behind : (r base t : ℕ) (bs z : List ℕ) (v : ℤ) (u : ℕ) (rest : List ℕ) → valueOf r base t bs ≡ gave v u rest
-    → valueOf r base t (bs ++ z) ≡ gave v u (rest ++ z)
+    → (valueOf r base t (bs ++ z) ≡ gave v u (rest ++ z)) × (length rest ≤ length bs)
 unfolding valueOf
-value-behind zero base t bs z v u rest h = rw (gave-value h, gave-table h, gave-rest h)
+value-behind zero base t bs z v u rest h = (rw (gave-value h, gave-table h, gave-rest h), omega (arith, ap length (gave-rest h)))
 value-behind (suc w) base t bs z v u rest h = go (decLe (suc w) (length bs))
   where
-    go : Dec (suc w ≤ length bs) → valueOf (suc w) base t (bs ++ z) ≡ gave v u (rest ++ z)
+    go : Dec (suc w ≤ length bs) → (valueOf (suc w) base t (bs ++ z) ≡ gave v u (rest ++ z)) × (length rest ≤ length bs)
     go (yes l) =
         let g = rw (le-leb (suc w) (length bs) l) at h in
-        let m = le-leb (suc w) (length (bs ++ z)) (omega (arith, length-append bs z)) in
-        rw (m, take-append-le (suc w) bs z l, drop-append-le (suc w) bs z l) (rw (gave-value g, gave-table g, gave-rest g))
-    go (no l) = let g = rw (lt-leb (suc w) (length bs) (omega arith)) at h in unlike cc
-
--- so it is here
-value-left : (r base t : ℕ) (bs : List ℕ) (v : ℤ) (u : ℕ) (rest : List ℕ) → valueOf r base t bs ≡ gave v u rest → length rest ≤ length bs
-unfolding valueOf
-value-left zero base t bs v u rest h = omega (arith, ap length (gave-rest h))
-value-left (suc w) base t bs v u rest h = go (decLe (suc w) (length bs))
-  where
-    go : Dec (suc w ≤ length bs) → length rest ≤ length bs
-    go (yes l) = omega (arith, length-drop (suc w) bs, ap length (gave-rest (rw (le-leb (suc w) (length bs) l) at h)))
+        let m = le-leb (suc w) (length (bs ++ z)) (omega (arith, length-append bs z)) in (
+          rw (m, take-append-le (suc w) bs z l, drop-append-le (suc w) bs z l) (rw (gave-value g, gave-table g, gave-rest g)),
+          omega (arith, length-drop (suc w) bs, ap length (gave-rest g)),
+        )
     go (no l) = let g = rw (lt-leb (suc w) (length bs) (omega arith)) at h in unlike cc
 
 module _ (n : ℕ) (tables : List (List Structure)) (right : every (tableRight n) tables ≡ true) (z : List ℕ) where
@@ -124,12 +109,11 @@ module _ (n : ℕ) (tables : List (List Structure)) (right : every (tableRight n
           let front = drop-append-le (c .prefix) bs z (matched (tableOf tables t) bs c e .long) in
           let value = sym (read-value n tables right t bs c e m) ∙ h in
           let own = compared-value n tables right t bs c e m in
-          let left = value-left (remainderOf c) (c .base) t (drop (c .prefix) bs) v u rest value in
+          let behind = value-behind (remainderOf c) (c .base) t (drop (c .prefix) bs) z v u rest value in
           record {
-            read = read-value n tables right t (bs ++ z) c (more .0) m
-                ∙ rw front (value-behind (remainderOf c) (c .base) t (drop (c .prefix) bs) z v u rest value);
+            read = read-value n tables right t (bs ++ z) c (more .0) m ∙ rw front (behind .0);
             compared = compared-value n tables right t (bs ++ z) c (more .0) m ∙ more .1 ∙ sym own;
-            few = omega (arith, own, left, code-few t bs c e);
+            few = omega (arith, own, behind .1, code-few t bs c e);
           }
 
       found : (o : Option Structure) → matching (tableOf tables t) bs ≡ o → Codes t bs v u rest
@@ -151,7 +135,7 @@ module _ (n : ℕ) (tables : List (List Structure)) (right : every (tableRight n
         go : (ts : List (List Structure)) → tables ≡ ts → readNext ts t bs ≡ gave v u rest
             → (readNext ts t (bs ++ z) ≡ gave v u (rest ++ z)) × (comparedNext ts t (bs ++ z) ≡ comparedNext ts t bs)
             × (comparedNext ts t bs + mostStructures * length rest ≤ mostStructures * length bs)
-        go [] e g = (plain-behind t bs z v u rest g, refl, omega (arith, plain-left t bs v u rest g))
+        go [] e g = let d = plain-behind t bs z v u rest g in (d .0, refl, omega (arith, d .1))
         go (cs ∷ ts) e g =
             let d = coded-within (suc (length bs)) t bs v u rest (omega arith) (rw (← e) at g) in
             rw (← e) (d .read, d .compared, d .few)

@@ -126,16 +126,16 @@ module _ (n : ℕ) (tables : List (List Structure)) (right : every (tableRight n
     after-same x y table bs (some c) e same = by .behind x y c table bs (same (c .base) (drop (c .prefix) bs) (falls table bs c e))
 
     -- of no bits nothing is found
-    found-none : (x : ℕ → List ℕ → A) (table : ℕ) (bs : List ℕ) → length bs ≤ 0 → after x (matching (tableOf tables table) bs) table bs ≡ nothing
-    found-none x table bs h =
+    nothing-found : (x : ℕ → List ℕ → A) (table : ℕ) (bs : List ℕ) → length bs ≤ 0 → after x (matching (tableOf tables table) bs) table bs ≡ nothing
+    nothing-found x table bs h =
         ap (λ (m : Option Structure). after x m table bs) (none-left table bs (matching (tableOf tables table) bs) h refl)
         ∙ by .unmatched x table bs
 
     -- as many codes as bits are enough
     enough : (f g table : ℕ) (bs : List ℕ) → length bs ≤ f → length bs ≤ g → within f table bs ≡ within g table bs
     enough zero zero table bs hf hg = refl
-    enough zero (suc g) table bs hf hg = by .none-yet table bs ∙ sym (by .one-more g table bs ∙ found-none (within g) table bs hf)
-    enough (suc f) zero table bs hf hg = by .one-more f table bs ∙ found-none (within f) table bs hg ∙ sym (by .none-yet table bs)
+    enough zero (suc g) table bs hf hg = by .none-yet table bs ∙ sym (by .one-more g table bs ∙ nothing-found (within g) table bs hf)
+    enough (suc f) zero table bs hf hg = by .one-more f table bs ∙ nothing-found (within f) table bs hg ∙ sym (by .none-yet table bs)
     enough (suc f) (suc g) table bs hf hg =
         by .one-more f table bs
         ∙ after-same (within f) (within g) table bs (matching (tableOf tables table) bs) refl
@@ -145,7 +145,7 @@ module _ (n : ℕ) (tables : List (List Structure)) (right : every (tableRight n
     -- a code is matched in the current table, and what follows is found in the same way
     step : (table : ℕ) (bs : List ℕ)
         → within (length bs) table bs ≡ after (λ k l. within (length l) k l) (matching (tableOf tables table) bs) table bs
-    step table [] = by .none-yet table [] ∙ sym (found-none (λ k l. within (length l) k l) table [] (omega arith))
+    step table [] = by .none-yet table [] ∙ sym (nothing-found (λ k l. within (length l) k l) table [] (omega arith))
     step table (b ∷ bs) =
         by .one-more (length bs) table (b ∷ bs)
         ∙ after-same (within (length bs)) (λ k l. within (length l) k l) table (b ∷ bs) (matching (tableOf tables table) (b ∷ bs)) refl

@@ -68,7 +68,7 @@ Within n c = (c .at ≤ n) × (1 ≤ c .table) × (c .table ≤ 8) × (c .compar
 abbrev pub Leads : ℕ → ℕ → Form → Type 0
 Leads at n f = (1 ≤ f .prefix) × (at + f .prefix ≤ n) × (1 ≤ f .to) × (f .to ≤ 8)
 
--- an answer's cursor is further on than a place, and as before within n bits
+-- an answer's cursor is further on than a place, and still within n bits
 abbrev pub Onward : ℕ → ℕ → Read → Type 0
 Onward at n (Value x c) = (at < c .at) × Within n c × (x < 262144)
 Onward at n Stuck = Unit {0}
