@@ -100,9 +100,9 @@ def turn_lines(text, mark, table):
     return "\n".join(out)
 
 
-def turn_rust(text, table):
-    """In a source only clauses and imports have such names: no name of the code has a dash or a capital within."""
-    return turn_lines(text, "//", table)
+def of_clauses(table):
+    """In a source only clauses and imports have a name with a dash or a capital within; a name without is one of the code."""
+    return {old: new for old, new in table.items() if is_word(old)}
 
 
 def write(path, text):
@@ -120,9 +120,9 @@ def main(words):
     for path in files(".antt"):
         write(path, turn_lines(read(path), "--", table))
     for path in files(".rt"):
-        write(path, turn_rust(read(path), table))
+        write(path, turn_lines(read(path), "//", of_clauses(table)))
     for path in files(".edit"):
-        write(path, "\n".join(turned(l, table) if l.startswith(("old:", "new:")) else in_quotes(l, table) for l in read(path).split("\n")))
+        write(path, "\n".join(turned(l, of_clauses(table)) if l.startswith(("old:", "new:")) else in_quotes(l, table) for l in read(path).split("\n")))
     for path in files(".md"):
         write(path, in_quotes(read(path), table))
 
