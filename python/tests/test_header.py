@@ -31,7 +31,7 @@ class Header(Case):
             for kind, names in re.findall(r"(\w+) ([\w, ]+);", body):
                 fields += [(field.strip(), type_named(kind)) for field in names.split(",")]
             self.assertEqual(getattr(_library, name)._fields_, fields, name)
-        self.assertEqual(len(structures), 10)
+        self.assertEqual(len(structures), 9)
 
     def test_functions(self):
         functions = re.findall(r"^(\w+) (scp_\w+)\((.*?)\);", HEADER, re.DOTALL | re.MULTILINE)
@@ -39,7 +39,7 @@ class Header(Case):
             name: (type_named(answer), [type_given(one) for one in given.split(",")]) for answer, name, given in functions
         }
         self.assertEqual(_library.PROTOTYPES, expected)
-        self.assertEqual(len(functions), 17)
+        self.assertEqual(len(functions), 15)
 
     def test_bounds(self):
         bounds = re.findall(r"#define (SCP_\w+) (\d+)$", HEADER, re.MULTILINE)

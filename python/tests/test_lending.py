@@ -73,9 +73,6 @@ class Bytes(Case):
                 lambda wrong: tigmavresh.same_identifier(wrong, b""),
                 lambda wrong: tigmavresh.same_identifier(b"", wrong),
                 lambda wrong: tigmavresh.encode([1], 0, wrong),
-                lambda wrong: tigmavresh.stream_plain(wrong, b"", 1, 0),
-                lambda wrong: tigmavresh.stream_plain(b"", wrong, 1, 0),
-                lambda wrong: tigmavresh.stream_quick(wrong, 1, 0),
             ]:
                 self.assertRaises(TypeError, call, wrong)
 

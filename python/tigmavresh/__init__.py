@@ -23,20 +23,7 @@ record is what it was when it was opened. Calls may be made from any number of t
 from ._rules import Rule
 from ._version import __version__
 from .index import Index, IndexEntry
-from .reading import (
-    Entry,
-    Field,
-    Lead,
-    Pointer,
-    Record,
-    Stream,
-    breaks,
-    crc,
-    open,
-    same_identifier,
-    stream_plain,
-    stream_quick,
-)
+from .reading import Entry, Field, Lead, Pointer, Record, breaks, crc, open, same_identifier
 from .refusal import Refused
 from .writing import DEFAULT_TABLE, Coded, NewLead, encode, write
 
@@ -53,14 +40,11 @@ __all__ = [
     "Record",
     "Refused",
     "Rule",
-    "Stream",
     "__version__",
     "breaks",
     "crc",
     "encode",
     "open",
     "same_identifier",
-    "stream_plain",
-    "stream_quick",
     "write",
 ]

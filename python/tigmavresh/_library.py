@@ -60,10 +60,6 @@ class ScpEntry(ctypes.Structure):
     ]
 
 
-class ScpStream(ctypes.Structure):
-    _fields_ = [("refusal", c_uint8), ("count", c_uint32), ("end", c_uint32), ("compared", c_uint32)]
-
-
 class ScpCoded(ctypes.Structure):
     _fields_ = [("refusal", c_uint8), ("bytes", c_uint32), ("bits", c_uint32)]
 
@@ -103,8 +99,6 @@ PROTOTYPES = {
     "scp_read_lead": (ScpLead, LENT + [c_size_t] + LENT + LENT),
     "scp_lead": (ScpEntry, LENT + [c_size_t]),
     "scp_breaks": (c_uint8, LENT + [c_uint8]),
-    "scp_stream_plain": (ScpStream, LENT + LENT + [c_size_t, c_uint8] + LENT),
-    "scp_stream_quick": (ScpStream, LENT + [c_size_t, c_uint8] + LENT),
     "scp_encode_lead": (ScpCoded, LENT + LENT + [c_uint8] + LENT + LENT),
     "scp_write_record": (
         ScpWritten,

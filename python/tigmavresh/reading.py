@@ -1,5 +1,4 @@
-"""Reading: a record opened, its header fields, its leads; streams by themselves; and the questions that can be asked of any
-bytes."""
+"""Reading: a record opened, its header fields, its leads; and the questions that can be asked of any bytes."""
 
 from __future__ import annotations
 
@@ -114,20 +113,6 @@ class Lead:
         return self.first + len(self.samples) - 1
 
 
-@dataclass(frozen=True, eq=False)
-class Stream:
-    """A stream that was read by itself.
-
-    samples: An int16 array of numpy where that is installed, else an `array('h')`.
-    end: How many bits its codes take; up to 15 are left over behind them.
-    compared: How many code structures were compared, as in a `Lead`; 0 without Section 2.
-    """
-
-    samples: Samples
-    end: int
-    compared: int
-
-
 class Record:
     """A record that was opened. Iterating over it walks over its header fields, in the order that they stand in.
 
@@ -204,39 +189,6 @@ def _samples(room: ctypes.Array[ctypes.c_int16]) -> Samples:
     if numpy is None:
         return array("h", bytes(room))
     return numpy.frombuffer(room, dtype=numpy.int16)
-
-
-def stream_plain(section2: Bytes, stream: Bytes, count: int, order: int) -> Stream:
-    """Reads `count` samples, 1 to 65536, out of a stream of differences of order 0, 1 or 2, by any tables.
-
-    `section2` is Section 2's data with no spare byte (`DEFAULT_TABLE`, or tables of one's own); empty data mean that there
-    is none, and two bytes a value. Refused with the first that applies of 17 (also given for a stream of more than 1048576
-    bytes), 7 and 12 to 14.
-    """
-    tables, lent, count = bytes_of(section2), bytes_of(stream), size("count", count)
-    room = _room(count)
-    read = scp.scp_stream_plain(
-        tables, len(tables), lent, len(lent), count, number("order", order, 8), room, len(room)
-    )
-    check(read.refusal)
-    return Stream(_samples(room), read.end, read.compared)
-
-
-def stream_quick(stream: Bytes, count: int, order: int) -> Stream:
-    """Reads a stream by the default table, with an engine that knows this table only.
-
-    It answers what `stream_plain` answers for `DEFAULT_TABLE`.
-    """
-    lent, count = bytes_of(stream), size("count", count)
-    room = _room(count)
-    read = scp.scp_stream_quick(lent, len(lent), count, number("order", order, 8), room, len(room))
-    check(read.refusal)
-    return Stream(_samples(room), read.end, read.compared)
-
-
-def _room(count: int) -> ctypes.Array[ctypes.c_int16]:
-    """Room for samples; no more than there can be, as more are refused whatever room there is."""
-    return (ctypes.c_int16 * min(count, SCP_SAMPLES_MAX))()
 
 
 def open(data: Bytes) -> Record:

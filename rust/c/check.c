@@ -31,24 +31,6 @@ const uint8_t fields[30] = {
 
 const uint8_t default_table[2] = {0x1F, 0x4E};
 
-const uint8_t two_tables[114] = {
-    2, 0,
-    7, 0,
-    1, 1, 1, 0, 0, 0, 0, 0, 0,          /* 0 is a 0 */
-    3, 3, 1, 1, 0, 1, 0, 0, 0,          /* 100 is a 1 */
-    3, 3, 1, 0xFF, 0xFF, 5, 0, 0, 0,    /* 101 is a -1 */
-    4, 4, 1, 2, 0, 3, 0, 0, 0,          /* 1100 is a 2 */
-    4, 4, 1, 0xFE, 0xFF, 11, 0, 0, 0,   /* 1101 is a -2 */
-    4, 4, 0, 2, 0, 7, 0, 0, 0,          /* 1110 switches to table 2 */
-    4, 12, 1, 0, 0, 15, 0, 0, 0,        /* 1111 has 8 bits after it */
-    5, 0,
-    1, 9, 1, 0, 0, 0, 0, 0, 0,
-    3, 3, 1, 0, 0, 1, 0, 0, 0,
-    3, 3, 1, 1, 0, 5, 0, 0, 0,
-    3, 3, 1, 0xFF, 0xFF, 3, 0, 0, 0,
-    3, 3, 0, 1, 0, 7, 0, 0, 0
-};
-
 uint16_t check_of(const uint8_t *p, size_t n) {
     unsigned sum = 0xFFFF;
     while (n--) {
@@ -102,14 +84,6 @@ int work_is_cleared(size_t cleared) {
     return 1;
 }
 
-int room_holds(const int16_t *at, const int16_t *numbers, size_t count) {
-    for (size_t k = 0; k < GUARDS + LEAD_ROOM + GUARDS; k++) {
-        int16_t right = k >= GUARDS && k < GUARDS + count ? numbers[k - GUARDS] : LEAD_GUARD;
-        if (at[k] != right) return 0;
-    }
-    return 1;
-}
-
 int main(int count, char **words) {
     if (count != 2) {
         fprintf(stderr, "usage: c-check SAMPLES\n");
@@ -118,7 +92,6 @@ int main(int count, char **words) {
     samples = words[1];
     check_opening();
     check_leads();
-    check_streams();
     check_encoding();
     check_writing();
     check_index();

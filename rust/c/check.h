@@ -19,7 +19,6 @@ void expect(int holds, const char *file, int line, const char *words);
 
 void check_opening(void);
 void check_leads(void);
-void check_streams(void);
 void check_encoding(void);
 void check_writing(void);
 void check_index(void);
@@ -34,9 +33,6 @@ extern const uint8_t fields[30];
 
 /* The data of Section 2 that name the default table. */
 extern const uint8_t default_table[2];
-
-/* The data of Section 2 with the two tables of EC71's example. */
-extern const uint8_t two_tables[114];
 
 /* The check, bit by bit: not by the library. */
 uint16_t check_of(const uint8_t *p, size_t n);
@@ -61,10 +57,5 @@ int rest_is_untouched(size_t changed);
 /* Work space of bytes; whether it holds zeros in its first `cleared` bytes, and guards in all else. */
 extern uint8_t code_work[GUARDS + CODE_ROOM + GUARDS];
 int work_is_cleared(size_t cleared);
-
-/* Room of numbers for samples; whether it holds these first, and guards in all else. */
-enum { LEAD_ROOM = 64 };
-static const int16_t LEAD_GUARD = 0x5A3C;
-int room_holds(const int16_t *at, const int16_t *numbers, size_t count);
 
 #endif

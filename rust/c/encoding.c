@@ -3,6 +3,25 @@
  */
 #include "check.h"
 
+/* Section 2's data: the two tables of EC71's example. */
+static const uint8_t example[] = {
+    2, 0,
+    7, 0,
+    1, 1, 1, 0, 0, 0, 0, 0, 0,          /* 0 is a 0 */
+    3, 3, 1, 1, 0, 1, 0, 0, 0,          /* 100 is a 1 */
+    3, 3, 1, 0xFF, 0xFF, 5, 0, 0, 0,    /* 101 is a -1 */
+    4, 4, 1, 2, 0, 3, 0, 0, 0,          /* 1100 is a 2 */
+    4, 4, 1, 0xFE, 0xFF, 11, 0, 0, 0,   /* 1101 is a -2 */
+    4, 4, 0, 2, 0, 7, 0, 0, 0,          /* 1110 switches to table 2 */
+    4, 12, 1, 0, 0, 15, 0, 0, 0,        /* 1111 has 8 bits after it */
+    5, 0,
+    1, 9, 1, 0, 0, 0, 0, 0, 0,
+    3, 3, 1, 0, 0, 1, 0, 0, 0,
+    3, 3, 1, 1, 0, 5, 0, 0, 0,
+    3, 3, 1, 0xFF, 0xFF, 3, 0, 0, 0,
+    3, 3, 0, 1, 0, 7, 0, 0, 0
+};
+
 static uint8_t code_out[GUARDS + CODE_ROOM + GUARDS];
 
 /* Whether the output holds these bytes first, and guards in all else. */
@@ -63,10 +82,10 @@ static void by_two_tables(void) {
     /* by two tables: 15 once is 1111 and 8 bits, 15 twice is 1110, then twice 0 and 8 bits */
     static const int16_t fifteen[] = {15, 15};
     static const uint8_t once[] = {0xF0, 0xF0}, twice[] = {0xE0, 0x78, 0x3C};
-    coded_is((Asked){two_tables, sizeof two_tables, fifteen, 1, 0, 2, 2}, 0, once, 2, 12, 2);
-    coded_is((Asked){two_tables, sizeof two_tables, fifteen, 2, 0, 4, 3}, 0, twice, 3, 22, 4);
-    code_refused((Asked){two_tables, sizeof two_tables, fifteen, 2, 0, 3, 3}, SCP_REFUSED_ROOM, 0);
-    code_refused((Asked){two_tables, sizeof two_tables, fifteen, 0, 0, 4, 3}, SCP_REFUSED_WRITER_BOUNDS, 0);
+    coded_is((Asked){example, sizeof example, fifteen, 1, 0, 2, 2}, 0, once, 2, 12, 2);
+    coded_is((Asked){example, sizeof example, fifteen, 2, 0, 4, 3}, 0, twice, 3, 22, 4);
+    code_refused((Asked){example, sizeof example, fifteen, 2, 0, 3, 3}, SCP_REFUSED_ROOM, 0);
+    code_refused((Asked){example, sizeof example, fifteen, 0, 0, 4, 3}, SCP_REFUSED_WRITER_BOUNDS, 0);
 }
 
 static void without_stream_or_tables(void) {

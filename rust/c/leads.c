@@ -3,6 +3,9 @@
  */
 #include "check.h"
 
+enum { LEAD_ROOM = 64 };
+static const int16_t LEAD_GUARD = 0x5A3C;
+
 /* Output and work space, with guards on both sides. */
 static int16_t out[GUARDS + LEAD_ROOM + GUARDS], work[GUARDS + LEAD_ROOM + GUARDS];
 
@@ -13,6 +16,15 @@ static ScpLead read_guarded(size_t place, size_t out_n, size_t work_n) {
     ScpLead lead = scp_read_lead(file, file_size, place, out + GUARDS, out_n, work + GUARDS, work_n);
     EXPECT(memcmp(before, file, file_size) == 0);
     return lead;
+}
+
+/* Whether the room holds these numbers first, and guards in all else. */
+static int room_holds(const int16_t *at, const int16_t *numbers, size_t count) {
+    for (size_t k = 0; k < GUARDS + LEAD_ROOM + GUARDS; k++) {
+        int16_t right = k >= GUARDS && k < GUARDS + count ? numbers[k - GUARDS] : LEAD_GUARD;
+        if (at[k] != right) return 0;
+    }
+    return 1;
 }
 
 static const int16_t zeros[LEAD_ROOM];

@@ -44,10 +44,9 @@ enum {
     SCP_REFUSED_LEFT_OVER_BITS = 14,        /* 16 or more bits are left after the last sample; up to 15 are ignored */
     SCP_REFUSED_NO_STREAM = 15,             /* these samples cannot be encoded with these tables */
     SCP_REFUSED_TOO_LONG = 16,              /* the shortest stream has more than 65,535 bytes, or the record more than 1,048,576 */
-    /* 0 or more than 65,536 samples are to be coded or read out of a stream, or the order is over 2; for a stream to be read
-     * also: more than 1,048,576 bytes; for a record also: 0 or more than 32 leads, a step or interval of 0, a first sample
-     * number of 0 or a last one past 32 bits, samples lent that differ in number from the counts of the leads together, or
-     * lists of leads of unequal length */
+    /* 0 or more than 65,536 samples are to be coded, or the order is over 2; for a record also: 0 or more than 32 leads, a
+     * step or interval of 0, a first sample number of 0 or a last one past 32 bits, samples lent that differ in number from
+     * the counts of the leads together, or lists of leads of unequal length */
     SCP_REFUSED_WRITER_BOUNDS = 17,
     SCP_REFUSED_DATE = 24,                  /* the month of tag 25 is outside 1 to 12, or its day outside 1 to 31 */
     SCP_REFUSED_INDEX = 26                  /* an index is not whole entries in order, or more of it is in use than was lent */
@@ -108,14 +107,6 @@ typedef struct {
     uint32_t first, last;  /* the numbers of the first and the last sample */
     uint32_t leads, bytes; /* how many leads the record has, and how many bytes this one's stream has in Section 6 */
 } ScpEntry;
-
-/* A stream that was read; its samples are in the output. */
-typedef struct {
-    uint8_t refusal;
-    uint32_t count;    /* how many samples there are */
-    uint32_t end;      /* how many bits its codes take: the bit behind the last code, from 0 */
-    uint32_t compared; /* how many code structures were compared, summed over its codes (scp_read_lead) */
-} ScpStream;
 
 /* A lead that was coded; its stream is in the output. */
 typedef struct {
@@ -200,25 +191,6 @@ ScpEntry scp_lead(const uint8_t *record, size_t n, size_t place);
  * where the rules of all smaller rows are kept; of other bytes it is 0 or 1, and no more. Never refused.
  */
 uint8_t scp_breaks(const uint8_t *record, size_t n, uint8_t row);
-
-/*
- * Reads `count` samples, 1 to 65,536, out of a stream that is lent by itself; what it stores are differences of order 0, 1 or
- * 2. There are two engines. The plain one walks the structures of any tables: `section2` is Section 2's data with no spare
- * byte; empty data mean that there is no Section 2, and each value then takes two bytes. The quick one knows the default table
- * only. It answers what the plain one answers for this table, whether section2 names it (1F 4E) or spells out its 19
- * structures: the same refusal or samples, the same end, the same number of structures compared. scp_read_lead reads by the
- * quick one where Section 2 names the default table, and by the plain one elsewhere.
- *
- * The first `count` elements of the output are changed and no others; none on refusal. Up to 15 bits behind `end` are left over
- * and ignored. `compared` is as scp_read_lead has it: 0 without Section 2, and at most 64 times `end`.
- *
- * Refusals, the first that applies: 17 if `count` is 0 or over 65,536, the order is over 2, or the stream has more than
- * 1,048,576 bytes; 7, by the plain one; 11 if the output has fewer than `count` elements; then the first fault that is met in
- * reading, 12 to 14.
- */
-ScpStream scp_stream_plain(const uint8_t *section2, size_t n2, const uint8_t *stream, size_t n, size_t count, uint8_t order,
-                           int16_t *out, size_t out_n);
-ScpStream scp_stream_quick(const uint8_t *stream, size_t n, size_t count, uint8_t order, int16_t *out, size_t out_n);
 
 /*
  * Codes the samples of a lead, 1 to 65,536 of them, by differences of order 0, 1 or 2. `section2` is Section 2's data with

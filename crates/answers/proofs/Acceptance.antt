@@ -21,7 +21,6 @@ use Rattle.fields.specs.declared.Place.TheVariants.{At, Refused}
 use Rattle.fields.specs.Lookup.{place_found, field_place, walk_place, refusal_of, part_bytes}
 use Rattle.fields.proofs.Laws.{place_opened, found_inside}
 use Rattle.bits.specs.Bits.{bits_in}
-use Rattle.tables.specs.Default.{only_default}
 use Rattle.tables.specs.Section2.{tables_in, table_right, section2_right}
 use Rattle.rules.specs.LeadRules.{tables_right}
 use Rattle.leads.specs.LeadTrace.{tables_of}
@@ -35,7 +34,6 @@ use Rattle.packing.proofs.Laws.{length_packed}
 use Rattle.encode.specs.declared.Coded.{Coded}
 use Rattle.encode.specs.Encoding as E
 use Rattle.encode.specs.Encoding.{tables_given, tables_given_right, found_refusal, coded_as, out_as, LeadEncoding}
-use Rattle.engines.specs.Engines.{plain_refusal, quick_refusal}
 use Rattle.trip.proofs.Traces.{stream_back}
 use Rattle.trip.proofs.Compose.{meant_right, given_right}
 use Rattle.trip.proofs.Written.{written_back}
@@ -49,7 +47,6 @@ use Rattle.merging.specs.Merging.{merged, merge_answer, merged_into}
 use Rattle.answers.specs.Demands.{AllKept, rows_added, rows_merged, rows_opened, rows_lead, Demand2}
 use Rattle.answers.proofs.Laws.{none_broken}
 use Rattle.answers.proofs.Refusals.{lead, opened, accepted, accepted_merge, streamed}
-use Rattle.answers.proofs.Streamed.{stream_read, plain_kept, quick_kept}
 use Rattle.answers.proofs.Fewest.{given_kept, undone}
 use Rattle.fields.proofs.Identifiers.{same_equal, equal_same}
 
@@ -160,14 +157,6 @@ demand2 = record {
   entered = λ r place kept. ap (entry_of r (place - 1)) (lead r place ∙ none_broken (rows_lead r place) 0 kept);
   read = λ r place room work xs out kept e.
       rw (streamed r place room work kept, e) (refl, refl, trace_length r (place - 1) xs (sym e));
-  plain_read = λ s2 stream count order xs out kept e.
-      stream_read (tables_given s2) stream count order (plain_refusal s2 (length stream) count order (length out)) xs out
-      (plain_kept (tables_given s2) stream count order (length out) s2 kept)
-      e;
-  quick_read = λ stream count order xs out kept e.
-      stream_read only_default stream count order (quick_refusal (length stream) count order (length out)) xs out
-      (quick_kept only_default stream count order (length out) kept)
-      e;
   undone = λ r order xs bs right fit. undone (length (tables_of r)) (tables_of r) (record_right r right) order xs bs fit;
   undone_given = λ s2 order xs bs right fit. undone (length (tables_given s2)) (tables_given s2) (given_right s2 right) order xs bs fit;
   added = added;

@@ -118,7 +118,7 @@ sample_on go_on y xs h = go (fits16 y) (go_on y) h
     go false t e = unlike cc
 
 -- of bits that are rebuilt, all are read but those left over
-pub rebuilt_bits : (tables : List (List Structure)) (order left place : ℕ) (last other : ℤ) (table : ℕ) (bs : List ℕ) (xs : List ℤ)
+rebuilt_bits : (tables : List (List Structure)) (order left place : ℕ) (last other : ℤ) (table : ℕ) (bs : List ℕ) (xs : List ℤ)
     → rebuild_from tables order left place last other table bs ≡ rebuilt xs → length bs ≤ bits_from tables left table bs + most_left_over
 unfolding rebuild_from bits_from
 rebuilt_bits tables order zero place last other table bs xs h = go (leb (length bs) most_left_over) refl h

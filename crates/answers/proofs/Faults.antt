@@ -82,10 +82,5 @@ fault_trace r k = go (beat_subtracted r)
         (λ beat. fault_after _ (residual r k) (one 6 (sample_count_at r k)) (λ xs. fault_added (section_of r 4) beat (first_sample (section_of r 3) k) xs))
     go false = one 6 (sample_count_at r k)
 
-pub stream_fault : (tables : List (List Structure)) (order count : ℕ) (bs : List ℕ) (n : ℕ) → rebuild tables order count bs ≡ fault n
-    → (n ≡ 12) ⊎ (n ≡ 13) ⊎ (n ≡ 14)
-unfolding rebuild
-stream_fault tables order count bs n e = rw e at (fault_rebuilt tables order count 0 (pos 0) (pos 0) 1 bs)
-
 pub fault_number : (r : List ℕ) (k n : ℕ) → trace_at r k ≡ fault n → (n ≡ 12) ⊎ (n ≡ 13) ⊎ (n ≡ 14)
 fault_number r k n e = rw e at (fault_trace r k)

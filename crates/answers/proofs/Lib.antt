@@ -1,14 +1,12 @@
 pub mod Laws
 mod Lent
 pub mod Faults
-pub mod Streamed
 pub mod Refusals
 pub mod Cases
 pub mod Fewest
 pub mod Acceptance
 pub mod Padding
 pub mod Comparisons
-pub mod TwoEngines
 pub mod AuditorsIndex
 pub mod MergedIndexes
 pub mod Written

@@ -26,11 +26,9 @@ use Rattle.rules.specs.Rows.{row_kept}
 use Rattle.leads.specs.LeadTrace.{trace_at, room_right, read_refusal, read_trace}
 use Rattle.leads.specs.LeadAnswers.{lead_of, lead_answer, out_after, work_after, entry_of}
 use Rattle.packing.specs.Packing.{bytes_for}
-use Rattle.tables.specs.Default.{only_default}
 use Rattle.encode.specs.declared.Coded.{Coded}
 use Rattle.encode.specs.Encoding as E
-use Rattle.encode.specs.Encoding.{tables_given, LeadEncoding}
-use Rattle.engines.specs.Engines.{plain_trace, quick_trace}
+use Rattle.encode.specs.Encoding.{LeadEncoding}
 use Rattle.compose.specs.declared.Written.{Written}
 use Rattle.compose.specs.Writing as C
 use Rattle.compose.specs.Writing.{Job, RecordWriting}
@@ -39,7 +37,6 @@ use Rattle.filing.specs.Filing as F
 use Rattle.merging.specs.Merging.{merge_refusal, merge_answer, merged_into}
 use Rattle.answers.specs.Demands.{first_broken, all_kept, AllKept, rows_index, rows_added, rows_merged, refused_index, rows_opened, rows_field, rows_lead, rows_read, rows_asked, rows_job, fault_of, Later, refused_lead, refused_entry, refused_stream, refused_record, Demand1}
 use Rattle.answers.proofs.Faults.{fault_number}
-use Rattle.answers.proofs.Streamed.{not_said, plain_refused, quick_refused}
 use Rattle.answers.proofs.Laws.{none_broken, broken_behind, broken_first, broken_kept}
 
 -- ---- the first row that is broken
@@ -345,8 +342,6 @@ demand1 = record {
   entry = λ r place. entry_refusal r (place - 1) (lead_refusal r place) ∙ lead r place;
   reading = read;
   faults = fault_number;
-  plain_reading = λ s2 stream count order room. plain_refused (tables_given s2) stream count order room s2;
-  quick_reading = quick_refused only_default;
   coding = λ s2 xs order work out a w o n f h. encode_asked n f (coding_first s2 (length xs) order (length work) ∙ h);
   writing = λ j work out a w o n f h. write_asked n f (writing_first j (length work) ∙ h);
   coding_later = λ s2 xs order work out a w o f kept.
@@ -362,8 +357,6 @@ demand1 = record {
   not_shown = λ r tag k n. not_shown r n (field_place r tag k);
   not_entered = λ r place n. not_entered r (place - 1) (lead_refusal r place) n;
   not_read = λ r place n room work out. not_read r (place - 1) n (read_trace r place room work) out;
-  not_plain = λ s2 stream count order n out. not_said (tables_given s2) stream n (plain_trace s2 stream count order (length out)) out;
-  not_quick = λ stream count order n out. not_said only_default stream n (quick_trace stream count order (length out)) out;
   not_coded = λ s2 xs order work out a w o n e. encode_refused n e;
   not_written = λ j work out a w o n f. write_refused n f;
   not_added = not_added;

@@ -7,13 +7,13 @@
 -- the work space and o the output after it. `room` is how many elements an output has that is lent to the reader; where `work` is a
 -- number, it is how many the work space has. A field is the k-th with its tag, from 1; a refusal that is `suc n` is not 0. What is
 -- `lent` to opening are numbers; else it is the auditor's index, of which `used` bytes are in use. s is any bytes, and id an identifier
--- without its NUL. `S.Stream` is the answer of reading a stream alone. `entry_of` is a lead's entry, and `F.entry_of` a record's entry in the index.
+-- without its NUL. `entry_of` is a lead's entry, and `F.entry_of` a record's entry in the index.
 --
 -- > Any bytes and any numbers may come in, and every call ends.
 -- The checker accepts a function only if it ends, for all that may come in; no call has a condition on its caller. It also accepts none
 -- that changes what is lent only to be read. So neither needs a statement. The check, comparing identifiers, a step of the walk or along
 -- the index, and a row asked alone refuse nothing.
-use Rattle.std.specs.Prelude.{ℕ, suc, ◌+◌, ◌-◌, ◌*◌, ◌≤◌, ◌<◌, ◌≡◌, Bool, true, false, not, ◌&&◌, cond, List, [], ◌∷◌, ◌++◌, map, ◌⊎◌, ◌↔◌, leb, eqb, ℤ, pos, length, get_or, take, drop, replicate}
+use Rattle.std.specs.Prelude.{ℕ, suc, ◌+◌, ◌-◌, ◌*◌, ◌≤◌, ◌<◌, ◌≡◌, Bool, true, false, not, ◌&&◌, cond, List, [], ◌∷◌, ◌++◌, map, ◌⊎◌, ◌↔◌, eqb, ℤ, pos, length, get_or, take, drop, replicate}
 use Rattle.wire.specs.Bounds.{most_bytes, most_samples, most_stream_bytes}
 use Rattle.wire.specs.Numbers.{part}
 use Rattle.wire.specs.RuleWords.{every}
@@ -29,8 +29,6 @@ use Rattle.fields.specs.Identifier.{same}
 use Rattle.fields.specs.declared.Place.TheVariants.{Refused}
 use Rattle.fields.specs.Lookup.{field_place, walk_place, refusal_of, part_bytes}
 use Rattle.tables.specs.declared.Structure.{Structure}
-use Rattle.tables.specs.Default.{only_default}
-use Rattle.reading.specs.Compared.{compared_of, bits_read}
 use Rattle.samples.specs.Differences.{differences}
 use Rattle.samples.specs.Trace.{Trace, rebuilt, fault, fits16}
 use Rattle.traces.specs.Rebuilding.{most_left_over, rebuild}
@@ -48,8 +46,6 @@ use Rattle.paths.specs.Before.{Before}
 use Rattle.shortest.specs.Shortest.{are_bits, Stream}
 use Rattle.encode.specs.declared.Coded.{Coded}
 use Rattle.encode.specs.Encoding.{tables_given, asked_right, tables_given_right, work_right, LeadEncoding}
-use Rattle.engines.specs.declared.Stream as S
-use Rattle.engines.specs.Engines.{stream_asked_right, plain_trace, plain_answer, quick_trace, quick_answer}
 use Rattle.compose.specs.declared.Written.{Written}
 use Rattle.compose.specs.Writing.{Job, longest, job_right, record_of, RecordWriting}
 use Rattle.trip.specs.GivenBack.{JobFits, GivenBack, samples_of}
@@ -94,14 +90,6 @@ rows_lead r place =
 abbrev pub rows_read : List ℕ → ℕ → ℕ → ℕ → List (ℕ × Bool)
 rows_read r place room work = rows_lead r place ++ ((11, room_right r (place - 1) room work) ∷ [])
 
--- 17, 7 and 11, asked of a stream alone, of so many bytes, that the plain engine reads; 17 and 11 where it is the quick one (Q-4)
-abbrev pub rows_plain : List ℕ → ℕ → ℕ → ℕ → ℕ → List (ℕ × Bool)
-rows_plain s2 bytes count order room =
-    (17, stream_asked_right bytes count order) ∷ (7, tables_given_right s2) ∷ (11, leb count room) ∷ []
-
-abbrev pub rows_quick : ℕ → ℕ → ℕ → ℕ → List (ℕ × Bool)
-rows_quick bytes count order room = (17, stream_asked_right bytes count order) ∷ (11, leb count room) ∷ []
-
 -- 17, 7 and 11 for work space, asked of a lead to be encoded; 17, 6, 7 and 11 for work space, of a job
 abbrev pub rows_asked : List ℕ → ℕ → ℕ → ℕ → List (ℕ × Bool)
 rows_asked s2 count order work = (17, asked_right count order) ∷ (7, tables_given_right s2) ∷ (11, work_right s2 count work) ∷ []
@@ -137,9 +125,6 @@ Later n = (n ≡ 0) ⊎ (n ≡ 11) ⊎ (n ≡ 15) ⊎ (n ≡ 16)
 abbrev pub refused_lead : ℕ → Lead
 refused_lead n = record { refusal = n; id = 0; flags = 0; step = 0; interval = 0; first = 0; count = 0; compared = 0 }
 
-abbrev pub refused_reading : ℕ → S.Stream
-refused_reading n = record { refusal = n; count = 0; end = 0; compared = 0 }
-
 abbrev pub refused_entry : ℕ → Entry
 refused_entry n = record { refusal = n; id = 0; flags = 0; order = 0; step = 0; interval = 0; first = 0; last = 0; leads = 0; bytes = 0 }
 
@@ -166,14 +151,6 @@ pub record Demand1 : Type 0 where
   pub reading : (r : List ℕ) (place room work : ℕ)
       → (lead_answer r place room work).refusal ≡ first_broken (rows_read r place room work) (fault_of (trace_at r (place - 1)))
   pub faults : (r : List ℕ) (k n : ℕ) → trace_at r k ≡ fault n → (n ≡ 12) ⊎ (n ≡ 13) ⊎ (n ≡ 14)
-  -- reading a stream alone: the first of 17, 7 and 11 that is broken; where all are kept, the first fault that the stream has. The quick engine is
-  -- given no tables, so it has no 7
-  pub plain_reading : (s2 stream : List ℕ) (count order room : ℕ)
-      → (plain_answer s2 stream count order room).refusal
-      ≡ first_broken (rows_plain s2 (length stream) count order room) (fault_of (rebuild (tables_given s2) order count (bits_in stream)))
-  pub quick_reading : (stream : List ℕ) (count order room : ℕ)
-      → (quick_answer stream count order room).refusal
-      ≡ first_broken (rows_quick (length stream) count order room) (fault_of (rebuild only_default order count (bits_in stream)))
   -- encoding a lead and writing a record: the first of 17, 7 and 11, and of 17, 6, 7 and 11, that applies; where none does, a stream is
   -- looked for, and nothing but 15, 16 and 11 for the output can be given: the third demand says when
   pub coding : (s2 : List ℕ) (xs : List ℤ) (order : ℕ) (work out : List ℕ) (a : Coded) (w o : List ℕ) (n : ℕ)
@@ -203,12 +180,6 @@ pub record Demand1 : Type 0 where
   pub not_entered : (r : List ℕ) (place n : ℕ) → (entry_answer r place).refusal ≡ suc n → entry_answer r place ≡ refused_entry (suc n)
   pub not_read : (r : List ℕ) (place n room work : ℕ) (out : List ℤ) → (lead_answer r place room work).refusal ≡ suc n
       → (lead_answer r place room work ≡ refused_lead (suc n)) × (out_after (read_trace r place room work) out ≡ out)
-  pub not_plain : (s2 stream : List ℕ) (count order n : ℕ) (out : List ℤ) → (plain_answer s2 stream count order (length out)).refusal ≡ suc n
-      → (plain_answer s2 stream count order (length out) ≡ refused_reading (suc n))
-      × (out_after (plain_trace s2 stream count order (length out)) out ≡ out)
-  pub not_quick : (stream : List ℕ) (count order n : ℕ) (out : List ℤ) → (quick_answer stream count order (length out)).refusal ≡ suc n
-      → (quick_answer stream count order (length out) ≡ refused_reading (suc n))
-      × (out_after (quick_trace stream count order (length out)) out ≡ out)
   pub not_coded : (s2 : List ℕ) (xs : List ℤ) (order : ℕ) (work out : List ℕ) (a : Coded) (w o : List ℕ) (n : ℕ)
       → LeadEncoding s2 xs order work out a w o → a.refusal ≡ suc n → (a ≡ refused_stream (suc n)) × (o ≡ out)
   pub not_written : (j : Job) (work out : List ℕ) (a : Written) (w o : List ℕ) (n : ℕ) → RecordWriting j work out a w o → a.refusal ≡ suc n
@@ -277,24 +248,6 @@ pub record Demand2 : Type 0 where
         count = length xs;
         compared = compared_at r (place - 1);
       }) × (out_after (read_trace r place room work) out ≡ xs ++ drop (length xs) out) × (length xs ≡ sample_count_at r (place - 1))
-  -- a stream alone that keeps its rows and is rebuilt is read to exactly its samples, as many as were asked for; beside them the answer has
-  -- the bit behind the last code and how many structures were compared (Q-4)
-  pub plain_read : (s2 stream : List ℕ) (count order : ℕ) (xs out : List ℤ) → AllKept (rows_plain s2 (length stream) count order (length out))
-      → rebuild (tables_given s2) order count (bits_in stream) ≡ rebuilt xs
-      → (plain_answer s2 stream count order (length out) ≡ record {
-        refusal = 0;
-        count = count;
-        end = bits_read (tables_given s2) count (bits_in stream);
-        compared = compared_of (tables_given s2) count (bits_in stream);
-      }) × (out_after (plain_trace s2 stream count order (length out)) out ≡ xs ++ drop count out) × (length xs ≡ count)
-  pub quick_read : (stream : List ℕ) (count order : ℕ) (xs out : List ℤ) → AllKept (rows_quick (length stream) count order (length out))
-      → rebuild only_default order count (bits_in stream) ≡ rebuilt xs
-      → (quick_answer stream count order (length out) ≡ record {
-        refusal = 0;
-        count = count;
-        end = bits_read only_default count (bits_in stream);
-        compared = compared_of only_default count (bits_in stream);
-      }) × (out_after (quick_trace stream count order (length out)) out ≡ xs ++ drop count out) × (length xs ≡ count)
   -- rebuilding undoes the differences: bits are rebuilt to samples of 16 bits exactly if reading value after value takes them to the
   -- differences of the samples, with up to 15 bits behind (Q-1); by a record's own tables, and by those that the writer is given
   pub undone : (r : List ℕ) (order : ℕ) (xs : List ℤ) (bs : List ℕ) → tables_right r ≡ true → every fits16 xs ≡ true

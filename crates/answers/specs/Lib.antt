@@ -2,6 +2,5 @@ pub mod Examples
 pub mod Demands
 pub mod Padding
 pub mod Comparisons
-pub mod TwoEngines
 pub mod AuditorsIndex
 pub mod MergedIndexes

@@ -107,7 +107,7 @@ pub window_after : (bs : List ℕ) (w p q : ℕ) → Window bs w → Small bs �
 window_after bs w p q seen small h l = moved bs w p q (64 - (p + q)) small l (omega arith) (seen (p + q) h l)
 
 -- as many bits are the same number where the ones begin the others, and nowhere else
-pub begins_number : (p l : List ℕ) → Small p → Small l → length p ≤ length l → eqb (number_of (take (length p) l)) (number_of p) ≡ begins p l
+begins_number : (p l : List ℕ) → Small p → Small l → length p ≤ length l → eqb (number_of (take (length p) l)) (number_of p) ≡ begins p l
 begins_number p l sp sl h = go (begins p l) refl
   where
     differ : begins p l ≡ false → number_of (take (length p) l) ≡ number_of p → ⊥

@@ -156,7 +156,7 @@ fn put_plain(xs: &[i16], order: usize, out: &mut [u8])
 
 // How many bits the shortest stream for the samples' differences has: 524,281 for that many and more, 524,282 for no stream. Where
 // there are tables, its way is left in the work space, a byte for each sample and table.
-pub fn stream_bits_lem(tab: &[u32], n: usize, xs: &[i16], order: usize, work: &mut [u8]) -> usize
+pub fn stream_bits(tab: &[u32], n: usize, xs: &[i16], order: usize, work: &mut [u8]) -> usize
     requires { CompiledOrNoneCount tab.now n × (length xs.now ≤ 65536) × (length xs.now * n ≤ length work.old) }
     ensures { ((tables : List (List Structure)) → CompiledOrNone tables tab.now → length tables ≡ n
         → Sized tables (differences order xs.now) result
@@ -246,7 +246,7 @@ fn write_stream(
         → Written tables (differences order xs.now) out.old result out.new)
         × (length tab.now ≡ 0 → work.new ≡ work.old) }
 {
-    let bits = stream_bits_lem(tab, n, xs, order, work);
+    let bits = stream_bits(tab, n, xs, order, work);
     let refusal = found_refusal(bits, out.len());
     if refusal != 0 {
         return refused(refusal);
@@ -289,7 +289,7 @@ fn encode_by(
 }
 
 // 17: the count of samples and the order are asked right.
-pub fn asked_right(count: usize, order: usize) -> bool
+fn asked_right(count: usize, order: usize) -> bool
     ensures { result ≡ asked_right count order }
 {
     if count < 1 {

@@ -3,9 +3,7 @@
 // has the sum of the structures compared (Q-6).
 ghost use Rattle.std.specs.Prelude.{◌≡◌, true, false, List, ◌++◌, ℕ, ◌+◌, ◌-◌, ◌*◌, ◌<◌, ◌≤◌, ℤ, pos, length, take, drop, replicate};
 ghost use Rattle.rules.specs.LeadRules.{tables_right, lead_count_of, beat_subtracted, beat_sample_count, lead_refusal};
-ghost use Rattle.tables.specs.Default.{only_default};
 ghost use Rattle.compiled.specs.InnerForm.{room_numbers, CompiledOrNone};
-ghost use Rattle.quick.specs.InnerRun.{Held};
 ghost use Rattle.samples.specs.Trace.{rebuilt, fault};
 ghost use Rattle.samples.specs.InnerTrace.{trace_of};
 ghost use Rattle.leads.specs.LeadTrace.{tables_of, sample_count_at, stream_trace, trace_at, room_right, read_refusal, read_trace};
@@ -46,18 +44,18 @@ pub struct Entry {
 }
 
 // A lead of at most this many samples is read in small room, since all of the room is cleared first.
-pub const SMALL_ROOM: usize = 8192;
+const SMALL_ROOM: usize = 8192;
 
 // Room of its own: for the numbers of the code tables, and for the samples of a lead.
 fn table_room() -> [u32; compiled::ROOM] {
     [0; compiled::ROOM]
 }
 
-pub fn sample_room() -> [i16; wire::MOST_SAMPLES] {
+fn sample_room() -> [i16; wire::MOST_SAMPLES] {
     [0; wire::MOST_SAMPLES]
 }
 
-pub fn small_room() -> [i16; SMALL_ROOM] {
+fn small_room() -> [i16; SMALL_ROOM] {
     [0; SMALL_ROOM]
 }
 
@@ -73,7 +71,7 @@ fn clear(work: &mut [i16])
 }
 
 // The samples are copied to the front of the output.
-pub fn copy(xs: &[i16], out: &mut [i16])
+fn copy(xs: &[i16], out: &mut [i16])
     requires { length xs.now ≤ length out.old }
     ensures { out.new ≡ xs.now ++ drop (length xs.now) out.old }
 {
@@ -82,21 +80,6 @@ pub fn copy(xs: &[i16], out: &mut [i16])
         out[i] = xs[i];
         i += 1;
     }
-}
-
-// The one number that stands for the default table where a record names it.
-pub fn named() -> [u32; 1] {
-    [19999; 1]
-}
-
-// The record names the default table, by 19999; a table of its own with the same structures is not that.
-fn names_default(rec: &[u8]) -> bool
-    ensures { result ≡ true → tables_of rec.now ≡ only_default }
-{
-    if !pointers::is_present(rec, 2) {
-        return false;
-    }
-    tables::is_default(pointers::section_of(rec, 2), 16)
 }
 
 // The record's code tables are taken apart into the room; answered is how many of its numbers hold them, 0 without Section 2.
@@ -113,19 +96,19 @@ fn hold_tables(rec: &[u8], tab: &mut [u32]) -> usize
 
 // Lead k's stream in Section 5 or 6 is rebuilt into the room.
 fn stream_into(rec: &[u8], section: usize, k: usize, tab: &[u32], room: &mut [i16]) -> Rebuilt
-    requires { Held (tables_of rec.now) tab.now × (section < 64) × (k < lead_count_of rec.now) }
+    requires { CompiledOrNone (tables_of rec.now) tab.now × (section < 64) × (k < lead_count_of rec.now) }
     ensures room_after { (trace_of result.fault room.new ≡ stream_trace rec.now section (length room.old) k)
         × (length room.new ≡ length room.old) }
     ensures summed { Summed (stream_compared rec.now section (length room.old) k) most_sum result }
 {
     let s = pointers::section_of(rec, section);
     let stream = entries::stream_of(s, rules::leads_of(rec), k);
-    quick::rebuild_by(stream, tab, entries::order_of(s), room)
+    traces::rebuild(stream, tab, entries::order_of(s), room)
 }
 
 // The beat is rebuilt, then the residual in the room, and the beat is added to it.
 fn with_beat(rec: &[u8], k: usize, tab: &[u32], room: &mut [i16], beat: &mut [i16]) -> Rebuilt
-    requires held { Held (tables_of rec.now) tab.now }
+    requires compiled_or_none { CompiledOrNone (tables_of rec.now) tab.now }
     requires readable { Readable rec.now k (length beat.old) }
     requires room_len { (length room.old ≡ sample_count_at rec.now k) × (length beat.old ≡ beat_sample_count rec.now)
         × (beat_subtracted rec.now ≡ true) }
@@ -144,17 +127,15 @@ fn with_beat(rec: &[u8], k: usize, tab: &[u32], room: &mut [i16], beat: &mut [i1
     let fault = beats::add_beat(pointers::section_of(rec, 4), beat, first, room);
     let beat_sum = of_beat.compared;
     let own_sum = own.compared;
-    let end = own.end;
     Rebuilt {
         fault,
         compared: beat_sum + own_sum,
-        end,
     }
 }
 
 // Lead k is rebuilt in the room. Where a beat was subtracted it is rebuilt in the work space, all of which is then cleared.
 fn lead_into(rec: &[u8], k: usize, tab: &[u32], room: &mut [i16], work: &mut [i16]) -> Rebuilt
-    requires held { Held (tables_of rec.now) tab.now }
+    requires compiled_or_none { CompiledOrNone (tables_of rec.now) tab.now }
     requires readable { Readable rec.now k (length work.old) }
     requires room_len { length room.old ≡ sample_count_at rec.now k }
     ensures room_after { (trace_of result.fault room.new ≡ trace_at rec.now k)
@@ -180,7 +161,7 @@ fn lead_out(
     out: &mut [i16],
     work: &mut [i16],
 ) -> Rebuilt
-    requires held { Held (tables_of rec.now) tab.now }
+    requires compiled_or_none { CompiledOrNone (tables_of rec.now) tab.now }
     requires readable { Readable rec.now k (length work.old) }
     requires room_len { (length room.old ≡ sample_count_at rec.now k) × (sample_count_at rec.now k ≤ length out.old) }
     ensures out_after { ((xs : List ℤ) × (trace_of result.fault xs ≡ trace_at rec.now k))
@@ -205,7 +186,7 @@ fn read_in(
     out: &mut [i16],
     work: &mut [i16],
 ) -> Rebuilt
-    requires held { Held (tables_of rec.now) tab.now }
+    requires compiled_or_none { CompiledOrNone (tables_of rec.now) tab.now }
     requires readable { Readable rec.now k (length work.old) }
     requires k_in_bounds { (sample_count_at rec.now k ≤ length room.old) × (sample_count_at rec.now k ≤ length out.old) }
     ensures out_after { ((xs : List ℤ) × (trace_of result.fault xs ≡ trace_at rec.now k))
@@ -217,25 +198,7 @@ fn read_in(
     lead_out(rec, k, tab, &mut room[..n], out, work)
 }
 
-// Lead k is read by the tables held, in room of its own: small if it is short, since all of the room is cleared first.
-fn read_held(rec: &[u8], k: usize, tab: &[u32], out: &mut [i16], work: &mut [i16]) -> Rebuilt
-    requires held { Held (tables_of rec.now) tab.now }
-    requires readable { Readable rec.now k (length work.old) }
-    requires k_in_bounds { sample_count_at rec.now k ≤ length out.old }
-    ensures out_after { ((xs : List ℤ) × (trace_of result.fault xs ≡ trace_at rec.now k))
-        × (out.new ≡ out_after (trace_at rec.now k) out.old)
-        × (work.new ≡ cleared_if (beat_subtracted rec.now) work.old) }
-    ensures summed { Summed (compared_at rec.now k) (2 * most_sum) result }
-{
-    if entries::sample_count(pointers::section_of(rec, 3), k) <= SMALL_ROOM {
-        let mut room = small_room();
-        return read_in(rec, k, tab, &mut room, out, work);
-    }
-    let mut room = sample_room();
-    read_in(rec, k, tab, &mut room, out, work)
-}
-
-// Lead k is read by the record's tables. Where it names the default table, nothing is taken apart.
+// Lead k is read by the record's tables, in room of its own: small if it is short, since all of the room is cleared first.
 fn read_into(rec: &[u8], k: usize, out: &mut [i16], work: &mut [i16]) -> Rebuilt
     requires readable { Readable rec.now k (length work.old) }
     requires k_in_bounds { sample_count_at rec.now k ≤ length out.old }
@@ -244,13 +207,14 @@ fn read_into(rec: &[u8], k: usize, out: &mut [i16], work: &mut [i16]) -> Rebuilt
         × (work.new ≡ cleared_if (beat_subtracted rec.now) work.old) }
     ensures summed { Summed (compared_at rec.now k) (2 * most_sum) result }
 {
-    if names_default(rec) {
-        let one = named();
-        return read_held(rec, k, &one, out, work);
-    }
     let mut tab = table_room();
     let held = hold_tables(rec, &mut tab);
-    read_held(rec, k, &tab[..held], out, work)
+    if entries::sample_count(pointers::section_of(rec, 3), k) <= SMALL_ROOM {
+        let mut room = small_room();
+        return read_in(rec, k, &tab[..held], &mut room, out, work);
+    }
+    let mut room = sample_room();
+    read_in(rec, k, &tab[..held], &mut room, out, work)
 }
 
 // The room lent is enough for the lead at a place.

@@ -111,7 +111,7 @@ fn find(tab: &[u32], t: usize, w: u64, left: usize) -> Found
 }
 
 // A number in two's complement of one bit more than `half` has noughts, 131,072 added.
-pub fn raised(n: usize, half: usize) -> usize
+fn raised(n: usize, half: usize) -> usize
     requires { (1 ≤ half) × (half ≤ 32768) × (n < 2 * half) }
     ensures { ((w : ℕ) → half ≡ 2 ^ w → from_zero value_zero result ≡ signed (suc w) n) × (result < 262144) }
 {

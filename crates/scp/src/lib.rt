@@ -10,7 +10,6 @@ ghost use Rattle.rules.specs.Rows.{row_kept};
 ghost use Rattle.leads.specs.LeadTrace.{read_trace};
 ghost use Rattle.leads.specs.LeadAnswers.{lead_answer, out_after, work_after, entry_answer};
 ghost use Rattle.encode.specs.Encoding.{LeadEncoding};
-ghost use Rattle.engines.specs.Engines.{plain_trace, plain_answer, quick_trace, quick_answer};
 ghost use Rattle.compose.specs.Writing.{job_of, RecordWriting};
 ghost use Rattle.index.specs.Entry.{entry_at};
 ghost use Rattle.index.specs.Index.{find_place};
@@ -20,7 +19,6 @@ ghost use Rattle.scp.specs.Boundary.{part_at, shown, one_if};
 
 use compose::{Head, Written};
 use encode::Coded;
-use engines::Stream;
 use fields::Place;
 use filing::Indexed;
 use header::Step;
@@ -157,37 +155,6 @@ pub extern "C" fn scp_read_lead(rec: &[u8], place: usize, out: &mut [i16], work:
     ensures cleared { work.new ≡ work_after rec.now place (length out.old) work.old }
 {
     leads::read_lead(rec, place, out, work)
-}
-
-// A stream by the plain engine, by the tables of Section 2's data; none are given without Section 2. Its samples to the front of the output.
-#[unsafe(no_mangle)]
-pub extern "C" fn scp_stream_plain(
-    section2: &[u8],
-    stream: &[u8],
-    count: usize,
-    order: u8,
-    out: &mut [i16],
-) -> Stream
-    ensures answer { result ≡ plain_answer section2.now stream.now count order (length out.old) }
-    ensures samples { out.new
-        ≡ out_after (plain_trace section2.now stream.now count order (length out.old)) out.old }
-{
-    engines::stream_plain(section2, stream, count, order as usize, out)
-}
-
-// A stream by the quick engine, which knows the default table alone. Its samples to the front of the output.
-#[unsafe(no_mangle)]
-pub extern "C" fn scp_stream_quick(
-    stream: &[u8],
-    count: usize,
-    order: u8,
-    out: &mut [i16],
-) -> Stream
-    ensures answer { result ≡ quick_answer stream.now count order (length out.old) }
-    ensures samples { out.new
-        ≡ out_after (quick_trace stream.now count order (length out.old)) out.old }
-{
-    engines::stream_quick(stream, count, order as usize, out)
 }
 
 // The entry of the lead at a place, from 1, judged as reading it is; no stream is read.

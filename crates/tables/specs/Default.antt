@@ -41,10 +41,6 @@ default_table =
     ++ (two_values 6
     ++ (two_values 7 ++ (two_values 8 ++ (valued (ones 9 ++ (0 ∷ [])) 8 0 ∷ (valued (ones 10) 16 0 ∷ []))))))))))
 
--- where 19999 stands in place of a number of tables: the default table and no other
-abbrev pub only_default : List (List Structure)
-only_default = default_table ∷ []
-
 -- the rule of the runs again, as the prefixes alone, to hold the table against: a run of k ones, then `00` and then `01`
 abbrev pub two_runs : ℕ → List (List ℕ)
 two_runs k = (ones k ++ (0 ∷ (0 ∷ []))) ∷ ((ones k ++ (0 ∷ (1 ∷ []))) ∷ [])

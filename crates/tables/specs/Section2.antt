@@ -1,12 +1,12 @@
 -- Section 2's data and refusal 7 (01, Code tables; 01, Numbers that bound the work; 01, Refusal numbers). The data start at a place of
 -- s: at 16 behind a section's header, at 0 where they are given alone.
-use Rattle.std.specs.Prelude.{ℕ, zero, suc, ◌+◌, ◌*◌, Bool, ◌&&◌, cond, List, [], ◌∷◌, leb, eqb, length, get_or}
+use Rattle.std.specs.Prelude.{ℕ, zero, suc, ◌+◌, ◌*◌, Bool, true, ◌&&◌, cond, List, [], ◌∷◌, leb, eqb, length, get_or}
 use Rattle.wire.specs.Bounds.{most_tables, most_structures}
 use Rattle.wire.specs.Numbers.{number_at}
 use Rattle.wire.specs.RuleWords.{every, ends_by}
 use Rattle.tables.specs.declared.Structure.{Structure}
 use Rattle.tables.specs.Structures.{structures_at, structure_right, prefix_free}
-use Rattle.tables.specs.Default.{only_default}
+use Rattle.tables.specs.Default.{default_table}
 
 -- the first two bytes say how many tables follow; if they are 19999, none follows, and the default table is the only one
 abbrev pub table_count : List ℕ → ℕ → ℕ
@@ -33,7 +33,7 @@ after_tables s o (suc n) = after_tables s (after_table s o) n
 
 -- the tables that the data mean, for reader and writer alike
 unfoldable pub tables_in : List ℕ → ℕ → List (List Structure)
-tables_in s at = cond (is_default s at) only_default (tables_from s (at + 2) (table_count s at))
+tables_in s at = cond (is_default s at) (default_table ∷ []) (tables_from s (at + 2) (table_count s at))
 
 -- the table of a number, counted from 1; no structures where there is no such table
 unfoldable pub table_of : List (List Structure) → ℕ → List Structure

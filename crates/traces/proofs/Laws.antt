@@ -20,9 +20,8 @@ use Rattle.samples.specs.InnerTrace.{before, trace_of}
 use Rattle.samples.proofs.Laws.{fits_lower, before_none, before_more}
 use Rattle.tables.specs.declared.Structure.{Structure}
 use Rattle.reading.specs.Reading.{Next, gave, stuck, read_next}
-use Rattle.reading.specs.Compared.{compared_from, compared_of, bits_from, bits_read}
+use Rattle.reading.specs.Compared.{compared_from, compared_of}
 use Rattle.traces.specs.Rebuilding.{after_next, most_left_over, rebuild_from, rebuild}
-use Rattle.traces.specs.InnerTrace.{left_over}
 
 -- ---- one sample
 
@@ -69,15 +68,11 @@ pub room_start : (tables : List (List Structure)) (order n at table : ℕ) (bs :
 unfolding rebuild from_zero
 room_start tables order n at table bs e f = rw (e, f, sub-zero, before_none (rebuild_from tables order n 0 (pos 0) (pos 0) 1 bs))
 
--- and nothing is compared or read yet
-module _ (tables : List (List Structure)) (n at table : ℕ) (bs : List ℕ) (e : at ≡ 0) (f : table ≡ 1) where
-  pub sum_start : (compared : ℕ) → compared ≡ 0 → compared + compared_from tables (n - 0) table (drop at bs) ≡ compared_of tables n bs
-  unfolding compared_of
-  sum_start compared g = rw (e, f, g, sub-zero) (omega arith)
-
-  pub bits_start : at + bits_from tables (n - 0) table (drop at bs) ≡ bits_read tables n bs
-  unfolding bits_read
-  bits_start = rw (e, f, sub-zero) (omega arith)
+-- and nothing is compared yet
+pub sum_start : (tables : List (List Structure)) (n at table compared : ℕ) (bs : List ℕ) → at ≡ 0 → table ≡ 1 → compared ≡ 0
+    → compared + compared_from tables (n - 0) table (drop at bs) ≡ compared_of tables n bs
+unfolding compared_of
+sum_start tables n at table compared bs e f g = rw (e, f, g, sub-zero) (omega arith)
 
 -- a sample is put behind those that are there
 pub room_turn : {all : Trace} (rest : Trace) (room : List ℤ) (j : ℕ) (x : ℤ) → j < length room → all ≡ before (take j room) (behind x rest)
@@ -92,24 +87,24 @@ room_fault zero room h = absurd (omega arith)
 room_fault (suc n) room h = refl
 
 -- no value is left
-module _ (tables : List (List Structure)) (left table : ℕ) (bs : List ℕ) (none : left ≡ 0) where
-  pub sum_end : {compared all : ℕ} → compared + compared_from tables left table bs ≡ all → compared ≡ all
-  unfolding compared_from
-  sum_end {compared} e = sym (add-zero compared) ∙ rw none at e
+pub sum_end : (tables : List (List Structure)) (left table : ℕ) (bs : List ℕ) {compared all : ℕ} → left ≡ 0
+    → compared + compared_from tables left table bs ≡ all → compared ≡ all
+unfolding compared_from
+sum_end tables left table bs {compared} none e = sym (add-zero compared) ∙ rw none at e
 
-  pub bits_end : {at all : ℕ} → at + bits_from tables left table bs ≡ all → at ≡ all
-  unfolding bits_from
-  bits_end {at} e = sym (add-zero at) ∙ rw none at e
-
-  -- all samples are in the room; the bits that are left over decide
-  pub room_end : (order j : ℕ) (last other : ℤ) (room : List ℤ) → length room ≤ j
-      → trace_of (left_over (length bs)) room ≡ before (take j room) (rebuild_from tables order left j last other table bs)
+-- all samples are there
+module _ (tables : List (List Structure)) (order left j : ℕ) (last other : ℤ) (table : ℕ) (bs : List ℕ) (none : left ≡ 0)
+    (room : List ℤ) where
+  -- no more bits are left over than may be
+  pub room_end : length bs ≤ most_left_over → length room ≤ j
+      → rebuilt room ≡ before (take j room) (rebuild_from tables order left j last other table bs)
   unfolding rebuild_from
-  room_end order j last other room h = rw none (go (leb (length bs) most_left_over))
-    where
-      go : (b : Bool) → trace_of (cond b 0 14) room ≡ before (take j room) (cond b (rebuilt []) (fault 14))
-      go true = ap rebuilt (sym (append-nil (take j room) ∙ take_all j room h))
-      go false = refl
+  room_end h g = rw (none, le-leb (length bs) most_left_over h, append-nil (take j room), take_all j room g)
+
+  -- more are left over
+  pub room_over : most_left_over < length bs → fault 14 ≡ before (take j room) (rebuild_from tables order left j last other table bs)
+  unfolding rebuild_from
+  room_over h = rw (none, lt-leb (length bs) most_left_over h)
 
 -- ---- how many samples there are
 

@@ -1,15 +1,16 @@
 // Rebuilding a lead or a beat from its stream (01, Leads and samples; refusals 12 to 14): each code is read once, into room whose
-// contents count only where nothing was refused. The structures compared are summed up (Q-6). This is the plain engine (Q-4): it reads by
-// any tables.
-ghost use Rattle.std.specs.Prelude.{◌≡◌, List, ℕ, suc, ◌+◌, ◌-◌, ◌*◌, ◌<◌, ◌≤◌, length, drop};
+// contents count only where nothing was refused. The structures compared are summed up (Q-6).
+ghost use Rattle.std.specs.Prelude.{◌≡◌, List, ℕ, suc, ◌+◌, ◌*◌, ◌<◌, ◌≤◌, length, drop};
+ghost use Rattle.wire.specs.Bounds.{most_structures};
 ghost use Rattle.bits.specs.Bits.{bits_in};
 ghost use Rattle.bits.specs.InnerRaised.{sample_zero, from_zero};
+ghost use Rattle.samples.specs.InnerTrace.{trace_of};
 ghost use Rattle.tables.specs.declared.Structure.{Structure};
 ghost use Rattle.compiled.specs.InnerForm.{CompiledOrNone, CompiledSomeOrNone};
-ghost use Rattle.reading.specs.Compared.{compared_from, bits_from};
+ghost use Rattle.reading.specs.Compared.{compared_from, compared_of};
 ghost use Rattle.reading.specs.InnerCursor.{Within};
-ghost use Rattle.traces.specs.Rebuilding.{rebuild_from};
-ghost use Rattle.traces.specs.InnerTrace.{trace_from, SampledWithin, SampledSum, left_over, RebuiltBy, RebuiltWithin};
+ghost use Rattle.traces.specs.Rebuilding.{rebuild_from, rebuild};
+ghost use Rattle.traces.specs.InnerTrace.{trace_from, SampledWithin, SampledSum};
 
 use reading::{Cursor, Read};
 
@@ -20,13 +21,11 @@ pub enum Sampled {
     Fault(u8),
 }
 
-// The end of rebuilding: 0, or the number of the first fault met; and, where it is 0, how many structures were compared, and the bit
-// behind the last code.
+// The end of rebuilding: 0, or the number of the first fault met; and, where it is 0, how many structures were compared.
 #[derive(Drop)]
 pub struct Rebuilt {
     pub fault: u8,
     pub compared: usize,
-    pub end: usize,
 }
 
 // At most this many bits left over behind the last sample are ignored (01, Refusal numbers, row 14; Q-1): some carts pad a lead to an
@@ -52,9 +51,6 @@ fn next_sample(
     ensures summed { (tables : List (List Structure)) (left : ℕ) → CompiledOrNone tables tab.now
         → SampledSum (λ d. d.compared + compared_from tables left d.table (drop d.at (bits_in s.now)))
         (c.compared + compared_from tables (suc left) c.table (drop c.at (bits_in s.now))) result }
-    ensures ended { (tables : List (List Structure)) (left : ℕ) → CompiledOrNone tables tab.now
-        → SampledSum (λ d. d.at + bits_from tables left d.table (drop d.at (bits_in s.now)))
-        (c.at + bits_from tables (suc left) c.table (drop c.at (bits_in s.now))) result }
 {
     match c.value(s, tab) {
         Read::Value(v, d) => {
@@ -71,31 +67,15 @@ fn next_sample(
     }
 }
 
-// The end of rebuilding behind the last sample: 14 where more bits are left over than may be.
-pub fn ended(bits: usize, compared: usize, end: usize) -> Rebuilt
-    requires { end ≤ bits }
-    ensures { (result.fault ≡ left_over (bits - end)) × (result.compared ≡ compared) × (result.end ≡ end) }
-{
-    if bits - end <= MOST_LEFT_OVER {
-        return Rebuilt {
-            fault: 0,
-            compared,
-            end,
-        };
-    }
-    Rebuilt {
-        fault: 14,
-        compared,
-        end,
-    }
-}
-
 // The room is filled with the samples that a stream is rebuilt to.
 pub fn rebuild(s: &[u8], tab: &[u32], order: usize, room: &mut [i16]) -> Rebuilt
     requires { CompiledSomeOrNone tab.now × (length s.now ≤ 1048576) }
-    ensures rebuilt { (tables : List (List Structure)) → CompiledOrNone tables tab.now
-        → RebuiltBy tables order (length room.old) (bits_in s.now) result room.new }
-    ensures within { RebuiltWithin (length room.old) (length s.now * 8) result room.new }
+    ensures room_len_unchanged { ((tables : List (List Structure)) → CompiledOrNone tables tab.now
+        → trace_of result.fault room.new ≡ rebuild tables order (length room.old) (bits_in s.now))
+        × (length room.new ≡ length room.old) }
+    ensures summed { ((tables : List (List Structure)) → CompiledOrNone tables tab.now → result.fault ≡ 0
+        → result.compared ≡ compared_of tables (length room.old) (bits_in s.now))
+        × (result.compared ≤ most_structures * (length s.now * 8)) }
 {
     let n = room.len();
     let mut c = Cursor::new();
@@ -115,10 +95,16 @@ pub fn rebuild(s: &[u8], tab: &[u32], order: usize, room: &mut [i16]) -> Rebuilt
                 return Rebuilt {
                     fault: number,
                     compared: c.compared,
-                    end: c.at,
                 };
             }
         }
     }
-    ended(s.len() * 8, c.compared, c.at)
+    let compared = c.compared;
+    if s.len() * 8 - c.at <= MOST_LEFT_OVER {
+        return Rebuilt { fault: 0, compared };
+    }
+    Rebuilt {
+        fault: 14,
+        compared,
+    }
 }

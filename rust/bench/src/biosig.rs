@@ -59,23 +59,18 @@ fn beside(table: &mut Table, biosig: &Biosig, file: &Path) {
     let mut by_biosig = || {
         black_box(biosig.read(black_box(&name), &mut microvolts));
     };
-    let sides = [
-        Side::new(|| by_file(black_box(file), &mut samples)),
-        Side::new(&mut by_biosig),
-    ];
-    line(table, WHOLE, sides);
+    table.line(
+        WHOLE,
+        AMOUNT,
+        || by_file(black_box(file), &mut samples),
+        &mut by_biosig,
+    );
     let checks = Checks::of(&record);
     let sides = [
         Side::new(|| read_leads(&record, &mut samples)).without(|| judge_leads(&record)),
         Side::new(&mut by_biosig).without(|| assert!(checks.make())),
     ];
-    line(table, DECODING, sides);
-}
-
-/// A line beside biosig, and how many times as fast the library is.
-fn line(table: &mut Table, name: &str, sides: [Side; 2]) {
-    let times = table.line_by(Clock::Thread, name, AMOUNT, sides);
-    table.times_as_fast("biosig", times);
+    table.line_by(Clock::Thread, DECODING, AMOUNT, sides);
 }
 
 /// The record as a file, in a folder that goes with it.

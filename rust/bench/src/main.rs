@@ -12,10 +12,8 @@ mod measure;
 mod memory;
 mod picture;
 mod plain;
-mod plain_stream;
 mod reading;
 mod scratch;
-mod streams;
 
 use std::env::consts::ARCH;
 use std::fs;
@@ -61,8 +59,6 @@ enum Part {
     Crc,
     /// A long lead by tables of the record's own
     Engine,
-    /// Streams by the default table: the quick engine beside the plain one, and beside plain Rust
-    Streams,
     /// Encoding a lead
     Encoding,
     /// An index: looking up, adding, listing, merging
@@ -104,9 +100,6 @@ fn main() {
     }
     if cli.asks(Part::Engine) {
         reading::engine(&mut table);
-    }
-    if cli.asks(Part::Streams) {
-        streams::all(&mut table);
     }
     if cli.asks(Part::Encoding) {
         encoding::all(&mut table);

@@ -44,20 +44,19 @@ impl Table {
         plain: impl FnMut(),
     ) -> f64 {
         let sides = [Side::new(library), Side::new(plain)];
-        let [library, _] = self.line_by(Clock::Thread, name, amount, sides);
-        library
+        self.line_by(Clock::Thread, name, amount, sides)
     }
 
     /// Measures the library's side and the plain one in turns, and shows the time that each takes for the work once, their
     /// ratio (over 1: the library takes longer), and how much of some unit the library does in a second. The answer is the
-    /// time of both.
+    /// library's time.
     pub fn line_by(
         &mut self,
         clock: Clock,
         name: &str,
         (amount, unit): (usize, &str),
         mut sides: [Side; 2],
-    ) -> [f64; 2] {
+    ) -> f64 {
         let mut works: Vec<&mut Work> = sides.iter_mut().flat_map(Side::works).collect();
         let once: f64 = works.iter_mut().map(|work| work.warm_up(clock)).sum();
         let number = match once > LONG {
@@ -75,12 +74,7 @@ impl Table {
             library / plain,
             amount as f64 / library / 1e6
         );
-        [library, plain]
-    }
-
-    /// Says behind a line how many times as fast the library is as another one.
-    pub fn times_as_fast(&mut self, other: &str, [library, plain]: [f64; 2]) {
-        println!("    {:.2} times as fast as {other}", plain / library);
+        library
     }
 
     /// Says why a line is left out.

@@ -9,7 +9,6 @@ use crate::answers::{hold, number, same, Difference};
 use crate::index;
 use crate::leads;
 use crate::lent::{Lent, Room};
-use crate::streams;
 use crate::tally::{Call, Tally};
 
 /// Steps of the walk that are taken at places of any kind.
@@ -28,9 +27,8 @@ pub fn compare(input: &[u8], rng: &mut Rng, tally: &mut Tally) -> Result<(), Dif
     crc(record, rng, tally)?;
     leads::compare(record, rng, tally)?;
     wrapper(record)?;
-    // with numbers of their own, so that what is made after them does not depend on them
+    // with numbers of its own, so that what is made after it does not depend on it
     index::compare(record, &mut rng.clone(), tally)?;
-    streams::inputs::compare(record, &mut rng.clone(), tally)?;
     hold(lent.is_untouched(), "lent bytes were changed")
 }
 

@@ -2,11 +2,10 @@
 //!
 //! Inputs are made by the judge's generator from a seed ([`inputs`]), or laid out by hand at the edges of the rules
 //! ([`edges`]) and at their ends ([`extremes`]); every call is made by both on each of them, in memory with guards around
-//! it ([`calls`], [`streams`], [`encoding`], [`writing`], [`index`]); and every answer is counted ([`tally`],
-//! [`writing::counts`]). The two engines that read streams are held against each other. On tiny leads the encoder is held
-//! against all streams that there are ([`encoding::brute`]); what is written is read back; an index to which records were added
-//! one by one is held against the one that is built afresh from them, and against the one that is merged from indexes of runs of
-//! them.
+//! it ([`calls`], [`encoding`], [`writing`], [`index`]); and every answer is counted ([`tally`], [`writing::counts`]). On tiny
+//! leads the encoder is held against all streams that there are ([`encoding::brute`]); what is written is read back; an index
+//! to which records were added one by one is held against the one that is built afresh from them, and against the one that is
+//! merged from indexes of runs of them.
 
 mod answers;
 mod beaten;
@@ -23,7 +22,6 @@ mod leads;
 mod lent;
 pub mod rhythm;
 pub mod samples;
-pub mod streams;
 pub mod tally;
 pub mod writing;
 
@@ -34,13 +32,11 @@ use tally::Tally;
 
 /// One input in this many comes with a lead to encode.
 const LEADS: u64 = 4;
-/// One input in this many comes with a stream to read.
-const STREAMS: u64 = 4;
 /// One input in this many comes with records to build an index from, and with indexes to merge.
 const INDEXES: u64 = 8;
 
-/// Compares on `count` inputs that the seed fixes, on leads to encode, on streams to read, on records to build indexes from and
-/// on indexes to merge. The counts, or what differs first and on which input.
+/// Compares on `count` inputs that the seed fixes, on leads to encode, on records to build indexes from and on indexes to
+/// merge. The counts, or what differs first and on which input.
 pub fn run(seed: u64, count: u64) -> Result<Tally, String> {
     let mut tally = Tally::default();
     for number in 0..count {
@@ -63,12 +59,6 @@ pub fn run(seed: u64, count: u64) -> Result<Tally, String> {
             })?;
             index::merging::compare(&mut rng, &mut tally).map_err(|difference| {
                 format!("seed {seed}, indexes to merge with input {number}: {difference}")
-            })?;
-        }
-        if number % STREAMS == 0 {
-            let call = make::to_read(&mut rng);
-            streams::compare(&call, &mut rng, &mut tally).map_err(|difference| {
-                format!("seed {seed}, stream to read with input {number}: {difference}")
             })?;
         }
     }

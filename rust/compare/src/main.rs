@@ -4,7 +4,7 @@ use std::process::ExitCode;
 
 use clap::Parser;
 use compare::encoding::brute;
-use compare::{streams, writing};
+use compare::writing;
 
 /// Hold the proved library against the judge on inputs that a seed fixes.
 #[derive(Parser)]
@@ -15,9 +15,6 @@ struct Cli {
     /// How many of them
     #[arg(long, value_name = "N", default_value_t = 20_000)]
     count: u64,
-    /// How many streams by the default table, to hold the quick engine against the plain one
-    #[arg(long, value_name = "N", default_value_t = 50_000)]
-    streams: u64,
     /// How many sets of small tables, to hold the encoder against all streams
     #[arg(long, value_name = "N", default_value_t = 40_000)]
     sets: u64,
@@ -38,7 +35,6 @@ fn main() -> ExitCode {
 
 fn run(cli: &Cli) -> Result<(), String> {
     println!("{}", compare::run(cli.seed, cli.count)?);
-    println!("{}", streams::run(cli.seed, cli.streams)?);
     println!("{}", brute::run(cli.seed, cli.sets)?);
     println!("{}", writing::run(cli.seed, cli.jobs)?);
     Ok(())

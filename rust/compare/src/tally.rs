@@ -4,7 +4,6 @@ use std::collections::BTreeMap;
 use std::fmt;
 
 use crate::inputs::Kind;
-use crate::streams::{codes, Asked, Judged};
 
 /// The calls that are compared.
 #[derive(Clone, Copy, Debug, PartialEq, Eq, PartialOrd, Ord)]
@@ -29,10 +28,6 @@ pub enum Call {
     ReadLead,
     /// `scp_read_lead`, with the work space cleared: the reading of a beat had begun
     ReadLeadWithBeat,
-    /// `scp_stream_plain`
-    StreamPlain,
-    /// `scp_stream_quick`
-    StreamQuick,
     /// `scp_encode_lead`, with the work space untouched
     EncodeLead,
     /// `scp_encode_lead`, with the work space cleared: the search had begun
@@ -62,21 +57,6 @@ pub struct Compared {
     pub structures: u64,
     /// The most of them for one lead.
     pub most: u32,
-}
-
-/// Streams that both engines read by the default table (Q-4), and what those have that were accepted.
-#[derive(Clone, Debug, Default, PartialEq, Eq)]
-pub struct Streams {
-    /// How many were answered so: 0, or the refusal.
-    pub answers: BTreeMap<u8, u64>,
-    /// Those with a remainder of 8 bits.
-    pub eights: u64,
-    /// Those with a remainder of 16 bits.
-    pub sixteens: u64,
-    /// Those with eight zeros in a row.
-    pub zeros: u64,
-    /// Those that leave so many bits over.
-    pub left_over: [u64; 16],
 }
 
 /// Entries that were put into an index, and where.
@@ -124,8 +104,6 @@ pub struct Tally {
     samples: u64,
     /// The leads that were read by comparing structures.
     pub compared: Compared,
-    /// The streams that both engines read.
-    pub streams: Streams,
     every_place: u64,
     to_encode: u64,
     bits: u64,
@@ -144,32 +122,6 @@ impl Compared {
             self.structures += u64::from(structures);
             self.most = self.most.max(structures);
         }
-    }
-}
-
-impl Streams {
-    /// Counts a stream and the answer to it.
-    pub fn count(&mut self, asked: &Asked, judged: &Judged) {
-        let refusal = judged.as_ref().err().copied().unwrap_or(0);
-        *self.answers.entry(refusal).or_default() += 1;
-        let Ok(read) = judged else {
-            return;
-        };
-        let kinds = codes::kinds(asked.stream, asked.count);
-        self.eights += u64::from(kinds.eights > 0);
-        self.sixteens += u64::from(kinds.sixteens > 0);
-        self.zeros += u64::from(kinds.zeros >= 8);
-        self.left_over[8 * asked.stream.len() - read.end as usize] += 1;
-    }
-
-    /// How many there were.
-    pub fn all(&self) -> u64 {
-        self.answers.values().sum()
-    }
-
-    /// How many were answered so: 0, or the refusal.
-    pub fn times(&self, number: u8) -> u64 {
-        self.answers.get(&number).copied().unwrap_or(0)
     }
 }
 
@@ -227,27 +179,6 @@ impl fmt::Display for Compared {
     }
 }
 
-impl fmt::Display for Streams {
-    fn fmt(&self, f: &mut fmt::Formatter<'_>) -> fmt::Result {
-        let answers = self.answers.iter();
-        let answers: Vec<_> = answers
-            .map(|(number, count)| format!("{number}: {count}"))
-            .collect();
-        writeln!(
-            f,
-            "streams: {} by both engines ({}), all as the judge's",
-            self.all(),
-            answers.join("  ")
-        )?;
-        write!(
-            f,
-            "streams: of those accepted {} have a remainder of 8 bits, {} one of 16, {} eight zeros in a row; bits left over, from 0 \
-             to 15: {:?}",
-            self.eights, self.sixteens, self.zeros, self.left_over
-        )
-    }
-}
-
 impl fmt::Display for Put {
     fn fmt(&self, f: &mut fmt::Formatter<'_>) -> fmt::Result {
         write!(
@@ -274,7 +205,6 @@ impl fmt::Display for Tally {
         let (samples, records) = (self.samples, self.every_place);
         writeln!(f, "compare: {records} records asked for every place")?;
         writeln!(f, "compare: {}", self.compared)?;
-        writeln!(f, "{}", self.streams)?;
         writeln!(
             f,
             "compare: {} leads to encode, streams of {} bits in all",

@@ -1,7 +1,7 @@
-//! The library against the judge on 20,480 inputs, 5,120 leads to encode, as many streams to read, 2,560 indexes to build and as
-//! many pairs of indexes to merge, always the same; every row of the table that each call can give is reached. Then the encoder
-//! against all streams, on 40,000 sets of small tables; then the writer on 10,240 jobs, every refusal reached. It has no test
-//! harness, so that its counts are always shown.
+//! The library against the judge on 20,480 inputs, 5,120 leads to encode, 2,560 indexes to build and as many pairs of indexes
+//! to merge, always the same; every row of the table that each call can give is reached. Then the encoder against all streams,
+//! on 40,000 sets of small tables; then the writer on 10,240 jobs, every refusal reached. It has no test harness, so that its
+//! counts are always shown.
 
 use std::process::exit;
 
@@ -23,7 +23,7 @@ const ENOUGH_ENTRIES: u64 = 1_000;
 const ENOUGH_INDEXES: u64 = 200;
 
 /// The answers that each call can give: 0, and the refusals.
-const ROWS: [(Call, &[u8]); 17] = [
+const ROWS: [(Call, &[u8]); 15] = [
     (Call::Open, &[0, 1, 2, 3, 4, 5, 6]),
     (Call::Field, &[0, 1, 2, 3, 4, 5, 6, 10]),
     (Call::WalkStart, &[0, 1, 2, 3, 4, 5, 6]),
@@ -34,8 +34,6 @@ const ROWS: [(Call, &[u8]); 17] = [
         &[0, 1, 2, 3, 4, 5, 6, 7, 8, 9, 10, 11, 12, 13, 14],
     ),
     (Call::ReadLeadWithBeat, &[0, 12, 13, 14]),
-    (Call::StreamPlain, &[0, 7, 11, 12, 13, 14, 17]),
-    (Call::StreamQuick, &[0, 11, 12, 13, 14, 17]),
     (Call::EncodeLead, &[0, 7, 11, 15, 16, 17]),
     (Call::EncodeLeadSearched, &[0, 11, 15, 16]),
     (Call::IndexAdd, &[0, 1, 2, 3, 4, 5, 6, 8, 11, 24, 26]),

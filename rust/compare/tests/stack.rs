@@ -1,5 +1,5 @@
 //! Every call on a thread with a small stack: 64 KiB for those on the header and on the index, 256 KiB for those that read,
-//! encode and write leads and read streams, which have room of their own.
+//! encode and write leads, which have room of their own.
 
 use std::ops::Range;
 use std::thread;
@@ -9,7 +9,6 @@ use compare::extremes;
 use compare::index::{self, merging};
 use compare::inputs::{self, Kind};
 use compare::largest::{largest, Filling};
-use compare::streams::{self, Asked};
 use compare::writing::{self, counts::Counts, edges};
 use judge::make::{self, Arrival, Rng, ToWrite};
 use judge::{row, Refused};
@@ -217,14 +216,12 @@ fn large_indexes_fit_a_small_stack() {
 
 // ---- leads
 
-/// The answers of the calls on a record's leads, and of the engines on the record as a stream.
+/// The answers of the calls on a record's leads.
 #[derive(Debug, PartialEq)]
 struct Leads {
     broken: Option<u8>,
     entry: Result<(u8, u32, u32, u32), u8>,
     read: [Result<ReadLead, u8>; 3],
-    plain: Result<usize, u8>,
-    quick: Result<usize, u8>,
 }
 
 /// How many structures were compared, and the samples.
@@ -232,12 +229,9 @@ type ReadLead = (u32, Vec<i16>);
 
 /// The first lead, the last that there can be, and one that there cannot be.
 const PLACES: [usize; 3] = [1, 32, 33];
-/// How many samples are read out of a record as a stream, and the order.
-const STREAMED: (usize, u8) = (65_536, 0);
 
 fn library_leads(record: &[u8], rooms: &mut [Vec<i16>; 2]) -> Leads {
     let [out, work] = rooms;
-    let (count, order) = STREAMED;
     Leads {
         broken: (row::LENGTH..=row::AGREEMENT).find(|&row| scp::breaks(record, row)),
         entry: scp::lead(record, 1)
@@ -247,18 +241,11 @@ fn library_leads(record: &[u8], rooms: &mut [Vec<i16>; 2]) -> Leads {
             let lead = scp::read_lead(record, place, out, work).map_err(Refusal::number)?;
             Ok((lead.compared, out[..lead.count].to_vec()))
         }),
-        plain: scp::stream_plain(&[], record, count, order, out)
-            .map(|read| read.end)
-            .map_err(Refusal::number),
-        quick: scp::stream_quick(record, count, order, out)
-            .map(|read| read.end)
-            .map_err(Refusal::number),
     }
 }
 
 fn judge_leads(record: &[u8]) -> Leads {
     let room = scp::SAMPLES_MAX;
-    let (count, order) = STREAMED;
     Leads {
         broken: (row::LENGTH..=row::AGREEMENT).find(|&row| judge::breaks(record, row)),
         entry: judge::lead(record, 1).map(|entry| (entry.id, entry.first, entry.last, entry.bytes)),
@@ -267,8 +254,6 @@ fn judge_leads(record: &[u8]) -> Leads {
             read.map(|lead| (lead.compared, lead.samples))
                 .map_err(|refused| refused.number)
         }),
-        plain: judge::stream_plain(&[], record, count, order, room).map(|read| read.end as usize),
-        quick: judge::stream_quick(record, count, order, room).map(|read| read.end as usize),
     }
 }
 
@@ -303,40 +288,6 @@ fn made_leads_fit_a_small_stack() {
     let leads = leads_on_a_small_stack(records.clone());
     for (leads, record) in leads.iter().zip(&records) {
         assert!(*leads == judge_leads(record));
-    }
-}
-
-// ---- streams
-
-/// Reads a stream on a small stack, with just enough room and with one element less, and holds the answers to the judge's. What
-/// is lent is not on the stack.
-fn streamed_on_a_small_stack(asked: Asked, name: &str) {
-    let enough = asked.count.min(scp::SAMPLES_MAX);
-    let expected = [enough, enough.saturating_sub(1)].map(|room| (room, asked.judged(room)));
-    let calls = || {
-        let rng = &mut Rng::new(5);
-        let mut calls = expected.iter();
-        calls.try_for_each(|(room, answer)| asked.by_library(*room, answer, rng))
-    };
-    let answer = thread::scope(|scope| {
-        let thread = thread::Builder::new().stack_size(STACK_FOR_LEADS);
-        thread.spawn_scoped(scope, calls).unwrap().join().unwrap()
-    });
-    assert_eq!(answer, Ok(()), "{name}");
-}
-
-#[test]
-fn the_longest_streams_fit_a_small_stack() {
-    for extreme in streams::extremes::all() {
-        streamed_on_a_small_stack(extreme.asked(), extreme.name);
-    }
-}
-
-#[test]
-fn made_streams_fit_a_small_stack() {
-    for seed in 0..300 {
-        let call = make::to_read(&mut Rng::new(seed));
-        streamed_on_a_small_stack(Asked::from(&call), "made");
     }
 }
 

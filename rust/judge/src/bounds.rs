@@ -20,5 +20,3 @@ pub const QRS: RangeInclusive<usize> = 0..=1024;
 pub const ORDERS: RangeInclusive<u8> = 0..=2;
 /// The most bytes of a lead's stream, as its count has 2 bytes.
 pub const STREAM: usize = 65_535;
-/// The most bytes of a stream that is read by itself (02, Q-4): as many as a record has.
-pub const STREAM_BY_ITSELF: usize = *RECORD.end();

@@ -1,5 +1,5 @@
-//! An independent reading of document 01, as of document 02 change it, of Q-4's engines
-//! and of Q-13's index, to compare the proved library with.
+//! An independent reading of document 01, as of document 02 change it, and of Q-13's
+//! index, to compare the proved library with.
 //!
 //! Each call judges the bytes it is given by itself and answers what the rules say, or the number
 //! of the refusal. A refusal can be explained: [`lead_findings`], [`job_findings`] and
@@ -14,7 +14,6 @@ mod bounds;
 mod check;
 mod differences;
 mod encoding;
-mod engines;
 mod finding;
 mod header;
 mod index;
@@ -36,7 +35,6 @@ mod writing;
 
 pub use check::crc;
 pub use encoding::{encode_lead, Coded};
-pub use engines::{stream_plain, stream_quick, Streamed};
 pub use finding::{
     CodeFault, Fault, FieldFault, Finding, FrameFault, LeadFault, Needs, Part, StreamFault, What,
     ZoneFault,

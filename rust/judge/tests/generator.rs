@@ -3,7 +3,7 @@
 
 use judge::make::{self, Rng};
 use judge::{breaks, encode_lead, lead, open, read_lead, row, write_record};
-use judge::{index_add, index_merge, index_step, stream_plain, stream_quick};
+use judge::{index_add, index_merge, index_step};
 
 /// Room for any lead and any beat.
 const ROOM: usize = 65_536;
@@ -100,27 +100,6 @@ fn every_row_of_the_writer_is_reached() {
     for row in [0, 6, 7, 11, 15, 16, 17] {
         assert!(writing[row] > 3, "row {row} of {writing:?}");
     }
-}
-
-#[test]
-fn every_row_of_reading_a_stream_is_reached() {
-    let (mut plain, mut quick) = ([0; 18], [0; 18]);
-    for seed in 0..6_000 {
-        let call = make::to_read(&mut Rng::new(seed));
-        let (stream, count, order) = (&call.stream, call.count, call.order);
-        let read = stream_plain(&call.section2, stream, count, order, call.out_len);
-        plain[usize::from(read.err().unwrap_or(0))] += 1;
-        if call.section2 == [0x1F, 0x4E] {
-            let read = stream_quick(stream, count, order, call.out_len);
-            quick[usize::from(read.err().unwrap_or(0))] += 1;
-        }
-    }
-    println!("{plain:?} {quick:?}");
-    for row in [0, 7, 11, 12, 13, 14, 17] {
-        assert!(plain[row] > 50, "row {row} of {plain:?}");
-        assert!(quick[row] > 10 || row == 7, "row {row} of {quick:?}");
-    }
-    assert!(plain[0] > 3_000 && quick[0] > 700);
 }
 
 #[test]

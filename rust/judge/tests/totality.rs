@@ -3,7 +3,6 @@
 use judge::make::{self, Rng};
 use judge::{breaks, field, lead, open, read_lead, row, walk_start, walk_step, Lead};
 use judge::{index_add, index_entry, index_find, index_merge, index_step};
-use judge::{stream_plain, stream_quick};
 
 /// Every call on these bytes.
 fn call_all(rng: &mut Rng, bytes: &[u8]) {
@@ -32,7 +31,6 @@ fn call_all(rng: &mut Rng, bytes: &[u8]) {
         assert!(step.is_none_or(|step| step.next <= bytes.len() && step.start == at + 5));
     }
     call_index(rng, bytes);
-    call_streams(rng, bytes);
 }
 
 /// The calls on the lead at a place of these bytes. At most 64 structures a bit are compared (02,
@@ -78,31 +76,6 @@ fn call_index(rng: &mut Rng, bytes: &[u8]) {
         assert!(merged.is_ok_and(|merged| merged.len() == both) || refused.is_some());
         let short = index_merge(a, b, both.saturating_sub(1)).err();
         assert!(short == refused.or(Some(row::ROOM)) || both == 0);
-    }
-}
-
-/// The calls that read a stream on these bytes, as a stream and as Section 2's data.
-fn call_streams(rng: &mut Rng, bytes: &[u8]) {
-    let order = rng.below(3) as u8;
-    for count in [0, 1, 1 + rng.small(8 * bytes.len()), 65_537, usize::MAX] {
-        let quick = stream_quick(bytes, count, order, count);
-        let plain = stream_plain(&[0x1F, 0x4E], bytes, count, order, count);
-        assert_eq!(quick, plain);
-        let is_within = (1..=65_536).contains(&count) && bytes.len() <= 1_048_576;
-        let bounds = Some(row::WRITER_BOUNDS);
-        assert_eq!(quick.as_ref().err() == bounds.as_ref(), !is_within);
-        let short = stream_quick(bytes, count, order, count.saturating_sub(1));
-        let room = if is_within { Some(row::ROOM) } else { bounds };
-        assert_eq!(short.err(), room);
-        if let Ok(read) = quick {
-            let left = 8 * bytes.len() - read.end as usize;
-            assert!(read.samples.len() == count && left <= 15);
-            assert!(read.compared <= 19 * read.end);
-        }
-        if let Ok(read) = stream_plain(bytes, bytes, count, order, count) {
-            assert!(read.compared <= 64 * read.end);
-        }
-        assert_eq!(stream_quick(bytes, count, 3, 0).err(), bounds);
     }
 }
 

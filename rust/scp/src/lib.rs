@@ -28,17 +28,6 @@
 //! # Ok::<(), std::io::Error>(())
 //! ```
 //!
-//! A stream by itself is read by any tables, or quickly by the default table, here to 14 18 0 -4 -9 -1 5:
-//!
-//! ```no_run
-//! let stream = [0xFF, 0x83, 0xBF, 0xE1, 0x27, 0xBF, 0xF7, 0xBD, 0xF8];
-//! let mut samples = [0; 7];
-//! match scp::stream_quick(&stream, 7, 0, &mut samples) {
-//!     Ok(read) => println!("{samples:?}, {} bits", read.end),
-//!     Err(refusal) => println!("refused: {refusal}"),
-//! }
-//! ```
-//!
 //! Samples are coded by the data of a Section 2, here the default table, into the shortest stream that is read to them:
 //!
 //! ```no_run
@@ -95,7 +84,6 @@ mod leads;
 pub mod raw;
 mod record;
 mod refusal;
-mod stream;
 mod writing;
 
 pub use encoding::{encode_lead, shortest, Coded, STREAM_MAX, TABLES_MAX};
@@ -109,5 +97,4 @@ pub use index::{
 pub use leads::{lead, leads, read_lead, samples, Entry, Lead, LEADS_MAX, SAMPLES_MAX};
 pub use record::{breaks, crc, open, Pointer, RECORD_MAX};
 pub use refusal::{Given, NoRefusal, Refusal};
-pub use stream::{stream_plain, stream_quick, Stream};
 pub use writing::{write_record, written, Job};

@@ -95,20 +95,6 @@ pub struct ScpEntry {
     pub bytes: u32,
 }
 
-/// A stream that was read.
-#[repr(C)]
-#[derive(Clone, Copy, Debug, Default, PartialEq, Eq)]
-pub struct ScpStream {
-    /// 0, or the refusal.
-    pub refusal: u8,
-    /// How many samples there are.
-    pub count: u32,
-    /// How many bits its codes take.
-    pub end: u32,
-    /// How many code structures were compared.
-    pub compared: u32,
-}
-
 /// A lead that was coded.
 #[repr(C)]
 #[derive(Clone, Copy, Debug, Default, PartialEq, Eq)]
@@ -190,26 +176,6 @@ extern "C" {
     pub fn scp_lead(record: *const u8, n: usize, place: usize) -> ScpEntry;
     /// Whether the rule of a row, 1 to 9, is broken, asked alone.
     pub fn scp_breaks(record: *const u8, n: usize, row: u8) -> u8;
-    /// Reads a stream by any tables.
-    pub fn scp_stream_plain(
-        section2: *const u8,
-        n2: usize,
-        stream: *const u8,
-        n: usize,
-        count: usize,
-        order: u8,
-        out: *mut i16,
-        out_n: usize,
-    ) -> ScpStream;
-    /// Reads a stream by the default table.
-    pub fn scp_stream_quick(
-        stream: *const u8,
-        n: usize,
-        count: usize,
-        order: u8,
-        out: *mut i16,
-        out_n: usize,
-    ) -> ScpStream;
     /// Codes the samples of a lead.
     pub fn scp_encode_lead(
         section2: *const u8,
@@ -289,45 +255,6 @@ pub fn read_lead(record: &[u8], place: usize, out: &mut [i16], work: &mut [i16])
             out.len(),
             work.as_mut_ptr(),
             work.len(),
-        )
-    }
-}
-
-/// [`scp_stream_plain`] on slices.
-pub fn stream_plain(
-    section2: &[u8],
-    stream: &[u8],
-    count: usize,
-    order: u8,
-    out: &mut [i16],
-) -> ScpStream {
-    // SAFETY: all three are slices lent for the call, which only reads the first two; no two of them share memory that it
-    // writes to.
-    unsafe {
-        scp_stream_plain(
-            section2.as_ptr(),
-            section2.len(),
-            stream.as_ptr(),
-            stream.len(),
-            count,
-            order,
-            out.as_mut_ptr(),
-            out.len(),
-        )
-    }
-}
-
-/// [`scp_stream_quick`] on slices.
-pub fn stream_quick(stream: &[u8], count: usize, order: u8, out: &mut [i16]) -> ScpStream {
-    // SAFETY: both are slices lent for the call, which only reads the first; they share no memory.
-    unsafe {
-        scp_stream_quick(
-            stream.as_ptr(),
-            stream.len(),
-            count,
-            order,
-            out.as_mut_ptr(),
-            out.len(),
         )
     }
 }

@@ -19,15 +19,15 @@ pub enum Given {
     OpeningAndWriting,
     /// Those that ask for a lead.
     Leads,
-    /// Those that ask for a lead, those that encode one, and reading a stream by any tables.
+    /// Those that ask for a lead, and those that encode one.
     LeadsAndWriting,
     /// Those that ask for a lead, and adding to an index.
     LeadsAndAdding,
-    /// Reading a lead, or a stream by itself.
+    /// Reading a lead.
     Streams,
     /// All that are lent a buffer.
     Lending,
-    /// Encoding a lead and writing a record; the bounds, reading a stream by itself too.
+    /// Encoding a lead and writing a record.
     Writing,
     /// Adding a record to an index.
     Adding,
@@ -252,9 +252,7 @@ without code tables each sample takes two bytes, and a lead of
         plain: "\
 A record is to be written, and it does not have 1 to 32 leads of 1 to 65,536 samples
 each, an order of 0 to 2, a step and an interval over 0, and sample numbers from 1
-that fit 32 bits; or the samples lent are more or fewer than the leads' counts say.
-Or a program asks the library to read a stream by itself, with other numbers of
-samples or orders, or with more than 1,048,576 bytes.",
+that fit 32 bits; or the samples lent are more or fewer than the leads' counts say.",
         example: "a job that has no lead.",
         given: Given::Writing,
     }

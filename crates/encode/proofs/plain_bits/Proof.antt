@@ -24,7 +24,7 @@ value-at-requires c κs = omega arith
 returns : tie.Need-returns invariant-loop decreases-loop
 returns c =
     let a = c.before.before.before.before.args in
-    let v = c.before.value_at_lem in
+    let v = c.before.value-at in
     let long = length_differences a.order a.xs.now in
     let l = c.before.before.before.loop in
     plain_unsized (differences a.order a.xs.now) l.i v.result (omega (arith, long)) v.ensures.0 (inl c.if1.true)
@@ -32,7 +32,7 @@ returns c =
 returns-2 : tie.Need-returns-2 invariant-loop decreases-loop
 returns-2 c =
     let a = c.before.before.before.before.before.args in
-    let v = c.before.before.value_at_lem in
+    let v = c.before.before.value-at in
     let long = length_differences a.order a.xs.now in
     let l = c.before.before.before.before.loop in
     plain_unsized (differences a.order a.xs.now) l.i v.result (omega (arith, long)) v.ensures.0 (inr c.if2.true)
@@ -48,7 +48,7 @@ loop-again c =
     let a = c.before.before.before.before.before.args in
     let vs = differences a.order a.xs.now in
     let l = c.before.before.before.before.loop in
-    let v = c.before.before.value_at_lem in
+    let v = c.before.before.value-at in
     (omega arith, inside_more vs l.i v.result v.ensures.0 (omega arith) c.if2.false l.invariant.1)
 
 mul-bits : tie.Need-overflow-mul-bits invariant-loop decreases-loop

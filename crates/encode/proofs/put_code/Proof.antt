@@ -55,7 +55,7 @@ put-requires-2 c κs =
     let f = d.args.f in
     let h = held first in (
       omega arith,
-      rw c.power.ensures (mod-lt c.before.before.value_at_lem.result (pow_pos f.remainder)),
+      rw c.power.ensures (mod-lt c.before.before.value-at.result (pow_pos f.remainder)),
       h.part,
       h.acc,
       omega (arith, p.ensures.3, p.ensures.1),
@@ -70,7 +70,7 @@ returns-2 c =
     let p = first.put in
     let q = c.before.before.put2 in
     let power = c.before.before.before.power in
-    let value = c.before.before.before.before.before.value_at_lem in
+    let value = c.before.before.before.before.before.value-at in
     let d = first.before.before.before in
     let a = d.args in
     let r = a.f.remainder in

@@ -49,7 +49,7 @@ loop-again c =
     let a = c.before.before.before.before.before.before.before.before.args in
     let vs = differences a.order a.xs.now in
     let l = c.before.before.before.before.before.before.loop in
-    let v = c.before.before.before.before.value_at_lem in
+    let v = c.before.before.before.before.value-at in
     let long = length_differences a.order a.xs.now in
     let p = c.before.before.put16 in (
       omega arith,

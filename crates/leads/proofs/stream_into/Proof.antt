@@ -26,8 +26,8 @@ stream-of-requires c κs = search rules
 order-of-requires : tie.Need-order-of-requires
 order-of-requires c κs = search rules
 
-rebuild-by-requires : tie.Need-rebuild-by-requires
-rebuild-by-requires c κs = search rules
+rebuild-requires : tie.Need-rebuild-requires
+rebuild-requires c κs = search rules
 
 same_length : tie.Need-same-length
 same_length c = search rules
@@ -43,12 +43,14 @@ returns c =
     let own = c.before.before.before.before.stream_of_lem.ensures.0 in
     let stream = own ∙ ap₂ (λ (m : ℕ) (l : List ℕ). stream_of m l d.args.k) leads s in
     let order = c.before.before.before.order-of.ensures.0 ∙ ap (λ (l : List ℕ). order_of l) s in
-    let got = c.before.rebuild-by.ensures in
-    let by = got.0 (tables_of r) d.requires.0 in (
-      (by.trace ∙ ap₂ (λ (o : ℕ) (l : List ℕ). rebuild (tables_of r) o n (bits_in l)) order stream, got.1.same),
+    let got = c.before.rebuild.ensures in (
       (
-        λ e. by.compared e ∙ ap (λ (l : List ℕ). compared_of (tables_of r) n (bits_in l)) stream,
-        omega (arith, got.1.compared, c.before.before.before.before.stream_of_lem.ensures.1),
+        got.0.0 (tables_of r) d.requires.0 ∙ ap₂ (λ (o : ℕ) (l : List ℕ). rebuild (tables_of r) o n (bits_in l)) order stream,
+        got.0.1,
+      ),
+      (
+        λ e. got.1.0 (tables_of r) d.requires.0 e ∙ ap (λ (l : List ℕ). compared_of (tables_of r) n (bits_in l)) stream,
+        omega (arith, got.1.1, c.before.before.before.before.stream_of_lem.ensures.1),
       ),
     )
 
@@ -60,6 +62,6 @@ stream-into-spec =
     leads-of-requires
     stream-of-requires
     order-of-requires
-    rebuild-by-requires
+    rebuild-requires
     same_length
     returns)

@@ -78,8 +78,8 @@ add-beat-requires c κs =
       omega (arith, room, d.requires.1.0.count),
     )
 
-add-t24 : tie.Need-overflow-add-t24
-add-t24 c = omega arith
+add-t23 : tie.Need-overflow-add-t23
+add-t23 c = omega arith
 
 same-length-4 : tie.Need-same-length-4
 same-length-4 c = search rules
@@ -130,7 +130,7 @@ with-beat-spec =
     returns-2
     section-of-requires-2
     add-beat-requires
-    add-t24
+    add-t23
     same-length-4
     same-length-5
     returns-3)

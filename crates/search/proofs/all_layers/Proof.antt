@@ -109,7 +109,7 @@ loop-again c =
     let room : from + a.n ≤ length l.work = omega (arith, l.invariant.1, r) in
     let len : length marks ≡ a.n = y.auto.1.1.1.1.1.1.0 ∙ simp (length-take, length-drop) (omega arith) in
     let there : l.i - 1 < length vs = omega (arith, length_differences a.order a.xs.now) in
-    let is = c.before.before.before.before.before.before.before.value_at_lem.ensures.0 in
+    let is = c.before.before.before.before.before.before.before.value-at.ensures.0 in
     let new = put_in_lem l.work marks from a.n len room in
     let old = put_out l.work marks from a.n len room in (
       omega arith,

@@ -66,7 +66,7 @@ learn-requires c κs =
 
 -- the value's structure was known, or was looked for
 found : (c : tie.Joined1 invariant-loop decreases-loop) → let a = c.before.before.before.before.before.before.before.before.before.args in
-    IsNearest a.tab.now 1 c.before.before.before.value_at_lem.result c.if1.k × Known a.tab.now c.if1.known
+    IsNearest a.tab.now 1 c.before.before.before.value-at.result c.if1.k × Known a.tab.now c.if1.known
 found c =
     let tab = c.before.before.before.before.before.before.before.before.before.args.tab.now in
     let K = c.before.before.before.before.before.loop.invariant.3 in
@@ -106,7 +106,7 @@ loop-again c =
     let room : l.i - 1 < length l.work = omega (arith, l.invariant.1, p.2) in
     let marks : List ℕ = k ∷ [] in
     let work = set l.work (l.i - 1) k in
-    let is = c.before.before.before.before.before.value_at_lem.ensures.0 in
+    let is = c.before.before.before.before.before.value-at.ensures.0 in
     let new = set_in l.work (l.i - 1) k room in
     let old = set_out l.work (l.i - 1) k room in (
       omega arith,

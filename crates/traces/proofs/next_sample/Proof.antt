@@ -14,8 +14,7 @@ use Rattle.compiled.specs.InnerForm.{CompiledOrNone}
 use Rattle.reading.specs.Reading.{gave, read_next}
 use Rattle.reading.specs.Compared.{compared_next}
 use Rattle.reading.specs.InnerCursor.{told, Within, Onward, Summed}
-use Rattle.reading.proofs.Cursors.{length_left}
-use Rattle.reading.proofs.Streams.{compared_more, bits_more}
+use Rattle.reading.proofs.Streams.{compared_more}
 use Rattle.traces.specs.Rebuilding.{rebuild_from}
 use Rattle.traces.proofs.Laws.{from_sample, from_outside, from_stuck}
 use Rattle.traces.proofs.next_sample.Statement.{statement}
@@ -68,10 +67,10 @@ outside c h tables left held =
     h
 
 returns : tie.Need-returns
-returns c = (outside c.before (inl c.if1.true), (omega arith, (λ tables left held. tt, λ tables left held. tt)))
+returns c = (outside c.before (inl c.if1.true), (omega arith, λ tables left held. tt))
 
 returns-2 : tie.Need-returns-2
-returns-2 c = (outside c.before.before (inr c.if2.true), (omega arith, (λ tables left held. tt, λ tables left held. tt)))
+returns-2 c = (outside c.before.before (inr c.if2.true), (omega arith, λ tables left held. tt))
 
 enum_told : tie.Need-enum-told
 enum_told c = search rules
@@ -91,15 +90,9 @@ returns-3 c =
           c.if2.false,
       (
         omega (arith, r.1),
-        (
-          λ tables left held.
-              let more = compared_more tables left a.c.table (drop a.c.at (bits_in a.s.now)) (sym (r.0 tables held)) in
-              omega (arith, more, r.2 tables held),
-          λ tables left held.
-              let d = c.before.before.before.before.v.given.0.1.0 in
-              let more = bits_more tables left a.c.table (drop a.c.at (bits_in a.s.now)) (sym (r.0 tables held)) in
-              omega (arith, more, r.1, length_left a.s.now a.c.at, length_left a.s.now d.at),
-        ),
+        λ tables left held.
+            let more = compared_more tables left a.c.table (drop a.c.at (bits_in a.s.now)) (sym (r.0 tables held)) in
+            omega (arith, more, r.2 tables held),
       ),
     )
 
@@ -110,7 +103,7 @@ returns-4 c =
       λ tables left held.
           from_stuck tables a.order left a.place (from_zero 32768 a.last) (from_zero 32768 a.other) a.c.table (drop a.c.at bits)
           (sym (ap (told bits) c.enum_told.given.1) ∙ c.before.before.value.ensures.0 tables held),
-      (omega arith, (λ tables left held. tt, λ tables left held. tt)),
+      (omega arith, λ tables left held. tt),
     )
 
 pub next-sample-spec : {M : Type 1} → statement M

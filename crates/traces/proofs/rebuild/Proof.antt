@@ -1,6 +1,6 @@
 -- The stream is rebuilt to the samples that are in the room, before what is rebuilt from the cursor on.
 use Prim.Native.Nat.{ℕ, suc, ◌+◌, ◌-◌, ◌*◌, ◌≤◌, ◌<◌}
-use mathlib.Core.Path.{◌≡◌, refl, sym, ap, subst, ◌∙◌}
+use mathlib.Core.Path.{◌≡◌, refl, sym, subst, ◌∙◌}
 use mathlib.Core.List.{List}
 use native.Mathlib.Omega.{arith}
 use borrow.Author.Rules.{rules}
@@ -9,18 +9,18 @@ use mir.Syntax.{w16}
 use mir.Val.{to_z, of_z}
 use Rattle.bits.specs.Bits.{bits_in}
 use Rattle.bits.specs.InnerRaised.{from_zero}
-use Rattle.samples.specs.InnerTrace.{before, trace_of}
+use Rattle.samples.specs.InnerTrace.{before}
 use Rattle.tables.specs.declared.Structure.{Structure}
 use Rattle.compiled.specs.InnerForm.{CompiledOrNone}
-use Rattle.reading.specs.Compared.{compared_from, compared_of, bits_from, bits_read}
+use Rattle.reading.specs.Compared.{compared_from, compared_of}
 use Rattle.reading.specs.InnerCursor.{Within}
 use Rattle.reading.specs.declared.Cursor.{Cursor}
 use Rattle.reading.proofs.Cursors.{length_left}
 use Rattle.traces.specs.Rebuilding.{rebuild_from, rebuild}
-use Rattle.traces.specs.InnerTrace.{trace_from, SampledWithin, SampledSum, left_over}
+use Rattle.traces.specs.InnerTrace.{trace_from, SampledWithin, SampledSum}
 use Rattle.traces.specs.declared.Sampled.{Sampled}
 use Rattle.traces.specs.declared.Sampled.TheVariants.{Sample, Fault}
-use Rattle.traces.proofs.Laws.{sum_start, bits_start, sum_end, bits_end, room_start, room_turn, room_fault, room_end}
+use Rattle.traces.proofs.Laws.{sum_start, sum_end, room_start, room_turn, room_fault, room_end, room_over}
 use Rattle.traces.proofs.rebuild.Statement.{statement}
 use Rattle.traces.proofs.rebuild.Tie as tie
 
@@ -31,8 +31,7 @@ invariant-loop s tab order room₀ n c₀ last₀ other₀ j₀ room c last othe
     → rebuild tables order n (bits_in s)
     ≡ before (take j room) (rebuild_from tables order (n - j) j (from_zero 32768 last) (from_zero 32768 other) c.table (drop c.at (bits_in s))))
     × ((tables : List (List Structure)) → CompiledOrNone tables tab
-    → (c.compared + compared_from tables (n - j) c.table (drop c.at (bits_in s)) ≡ compared_of tables n (bits_in s))
-    × (c.at + bits_from tables (n - j) c.table (drop c.at (bits_in s)) ≡ bits_read tables n (bits_in s)))
+    → c.compared + compared_from tables (n - j) c.table (drop c.at (bits_in s)) ≡ compared_of tables n (bits_in s))
 
 abbrev decreases-loop : tie.decreases-loop
 decreases-loop s tab order room₀ n c₀ last₀ other₀ j₀ room c last other j = n - j
@@ -53,12 +52,10 @@ loop-holds c =
           c.new.ensures.0
           c.new.ensures.1,
       λ tables held.
-          let new = c.new.result in
-          let at = c.new.ensures.0 in
-          let table = c.new.ensures.1 in (
-            sum_start tables (length a.room.now) new.at new.table (bits_in a.s.now) at table new.compared c.new.ensures.2,
-            bits_start tables (length a.room.now) new.at new.table (bits_in a.s.now) at table,
-          ),
+          sum_start tables (length a.room.now) c.new.result.at c.new.result.table c.new.result.compared (bits_in a.s.now)
+          c.new.ensures.0
+          c.new.ensures.1
+          c.new.ensures.2,
     )
 
 next-sample-requires : tie.Need-next-sample-requires invariant-loop decreases-loop
@@ -82,23 +79,18 @@ step c r is tables held =
     let e : n - l.j ≡ suc (n - (l.j + 1)) = omega (arith, c.before) in
     rw (← is, c.next-sample.ensures.0 tables (n - (l.j + 1)) held) (rw e at (l.invariant.5 tables held))
 
--- so are the sums from the cursor of a sample on
+-- so is the sum from the cursor of a sample on
 summed : (c : tie.After-next-sample invariant-loop decreases-loop) →
     let a = c.before.before.before.before.before.before.args in
     let l = c.before.before.loop in
     let n = length a.room.now in
     (x : ℕ) (d : Cursor) → c.next-sample.result ≡ Sample x d → (tables : List (List Structure)) → CompiledOrNone tables a.tab.now
-    → (d.compared + compared_from tables (n - (l.j + 1)) d.table (drop d.at (bits_in a.s.now)) ≡ compared_of tables n (bits_in a.s.now))
-    × (d.at + bits_from tables (n - (l.j + 1)) d.table (drop d.at (bits_in a.s.now)) ≡ bits_read tables n (bits_in a.s.now))
+    → d.compared + compared_from tables (n - (l.j + 1)) d.table (drop d.at (bits_in a.s.now)) ≡ compared_of tables n (bits_in a.s.now)
 summed c x d is tables held =
     let l = c.before.before.loop in
     let n = length c.before.before.before.before.before.before.args.room.now in
     let e : n - l.j ≡ suc (n - (l.j + 1)) = omega (arith, c.before) in
-    let told = c.next-sample.ensures.1.1 in
-    let all = rw e at (l.invariant.6 tables held) in (
-      subst (SampledSum _ _) is (told.0 tables (n - (l.j + 1)) held) ∙ all.0,
-      subst (SampledSum _ _) is (told.1 tables (n - (l.j + 1)) held) ∙ all.1,
-    )
+    subst (SampledSum _ _) is (c.next-sample.ensures.1.1 tables (n - (l.j + 1)) held) ∙ rw e at (l.invariant.6 tables held)
 
 -- the sample that a step gave is of 16 bits, and its cursor is within the stream
 given : (c : tie.After-known-told invariant-loop decreases-loop) →
@@ -111,8 +103,8 @@ given c =
 lowered-requires : tie.Need-lowered-requires invariant-loop decreases-loop
 lowered-requires c κs = omega (arith, (given c).0)
 
-mul-t16 : tie.Need-overflow-mul-t16 invariant-loop decreases-loop
-mul-t16 c = omega arith
+mul-t17 : tie.Need-overflow-mul-t17 invariant-loop decreases-loop
+mul-t17 c = omega arith
 
 slice-set-from-room : tie.Need-slice-set-from-room invariant-loop decreases-loop
 slice-set-from-room c = omega arith
@@ -164,42 +156,58 @@ returns c =
     let number = c.before.number.given.0.0 in
     let is = c.before.number.given.1 in
     let some : 1 ≤ number = subst (SampledWithin (length a.s.now * 8)) is told.next-sample.ensures.1.0 in (
-      λ tables held. record {
-        trace = room_fault number l.room some ∙ sym (step told (Fault number) is tables held);
-        compared = λ e. absurd (omega arith);
-        end = λ e. absurd (omega arith);
-      },
-      record { same = l.invariant.1; compared = omega arith; end = omega arith },
+      (λ tables held. room_fault number l.room some ∙ sym (step told (Fault number) is tables held), l.invariant.1),
+      (λ tables held e. absurd (omega arith), omega arith),
     )
 
-mul-ended : tie.Need-overflow-mul-ended invariant-loop decreases-loop
-mul-ended c = omega arith
+mul-if1 : tie.Need-overflow-mul-if1 invariant-loop decreases-loop
+mul-if1 c = omega arith
 
-ended-requires : tie.Need-ended-requires invariant-loop decreases-loop
-ended-requires c κs = omega arith
+sub-if1 : tie.Need-overflow-sub-if1 invariant-loop decreases-loop
+sub-if1 c = omega arith
 
 same-length-2 : tie.Need-same-length-2 invariant-loop decreases-loop
 same-length-2 c = omega arith
 
 returns-2 : tie.Need-returns-2 invariant-loop decreases-loop
 returns-2 c =
-    let a = c.before.before.before.before.before.before.args in
-    let l = c.before.before.loop in
+    let a = c.before.before.before.before.before.before.before.args in
+    let l = c.before.before.before.loop in
+    let few = length_left a.s.now l.c.at in
     let rest = drop l.c.at (bits_in a.s.now) in
-    let left = length a.room.now - l.j in
-    let last = from_zero 32768 l.last in
-    let other = from_zero 32768 l.other in
-    let e = c.ended.ensures in
-    let over : left_over (length a.s.now * 8 - l.c.at) ≡ left_over (length rest) = ap left_over (sym (length_left a.s.now l.c.at)) in (
-      λ tables held. record {
-        trace =
-            ap (λ (n : ℕ). trace_of n l.room) (e.0 ∙ over)
-            ∙ room_end tables left l.c.table rest (omega arith) a.order l.j last other l.room (omega arith)
-            ∙ sym (l.invariant.5 tables held);
-        compared = λ none. e.1 ∙ sum_end tables left l.c.table rest (omega arith) (l.invariant.6 tables held).0;
-        end = λ none. e.2 ∙ bits_end tables left l.c.table rest (omega arith) (l.invariant.6 tables held).1;
-      },
-      record { same = l.invariant.1; compared = omega (arith, e, l.invariant.2); end = omega (arith, e) },
+    let left = length a.room.now - l.j in (
+      (
+        λ tables held.
+            room_end tables a.order left l.j (from_zero 32768 l.last) (from_zero 32768 l.other) l.c.table rest
+            (omega arith)
+            l.room
+            (omega (arith, few))
+            (omega arith)
+            ∙ sym (l.invariant.5 tables held),
+        l.invariant.1,
+      ),
+      (λ tables held e. sum_end tables left l.c.table rest (omega arith) (l.invariant.6 tables held), omega (arith, l.invariant.2)),
+    )
+
+same-length-3 : tie.Need-same-length-3 invariant-loop decreases-loop
+same-length-3 c = omega arith
+
+returns-3 : tie.Need-returns-3 invariant-loop decreases-loop
+returns-3 c =
+    let a = c.before.before.before.before.before.before.before.args in
+    let l = c.before.before.before.loop in
+    let many = length_left a.s.now l.c.at in (
+      (
+        λ tables held.
+            room_over tables a.order (length a.room.now - l.j) l.j (from_zero 32768 l.last) (from_zero 32768 l.other) l.c.table
+            (drop l.c.at (bits_in a.s.now))
+            (omega arith)
+            l.room
+            (omega (arith, many))
+            ∙ sym (l.invariant.5 tables held),
+        l.invariant.1,
+      ),
+      (λ tables held e. absurd (omega arith), omega arith),
     )
 
 pub rebuild-spec : {M : Type 1} → statement M
@@ -213,7 +221,7 @@ rebuild-spec =
     next-sample-requires
     enum-known-x
     lowered-requires
-    mul-t16
+    mul-t17
     slice-set-from-room
     add-j
     loop-less
@@ -221,7 +229,9 @@ rebuild-spec =
     enum-known-number
     same_length
     returns
-    mul-ended
-    ended-requires
+    mul-if1
+    sub-if1
     same-length-2
-    returns-2)
+    returns-2
+    same-length-3
+    returns-3)

@@ -2,14 +2,13 @@
 //!
 //! A sound record is a draft with free choices everywhere the rules leave one. Damage is aimed at
 //! one row of the table, with all checks mended where that row is past them, or at several, or is
-//! blind. Calls of the writer, streams to read and indexes are made in the same way. All comes from
-//! an [`Rng`], so that a seed gives the same bytes each time.
+//! blind. Calls of the writer and indexes are made in the same way. All comes from an [`Rng`], so
+//! that a seed gives the same bytes each time.
 
 mod damage;
 mod draft;
 mod index;
 mod plan;
-mod reading;
 mod rhythm;
 mod rng;
 mod section_1;
@@ -21,7 +20,6 @@ mod writing;
 pub use damage::{aimed, blind, damaged, noise, several};
 pub use index::{arrivals, broken_index, dated, index, to_index, two_indexes, Arrival, LentIndex};
 pub use plan::{mend, mend_size};
-pub use reading::{to_read, ToRead};
 pub use rhythm::MadeLead;
 pub use rng::Rng;
 pub use sound::{made, record, Made};

@@ -102,7 +102,7 @@ pub fn to_write(rng: &mut Rng) -> ToWrite {
 }
 
 /// Room that is just enough, more, or too short.
-pub fn room(rng: &mut Rng, needed: usize) -> usize {
+fn room(rng: &mut Rng, needed: usize) -> usize {
     match rng.below(24) {
         0 => needed.saturating_sub(1),
         1 => rng.below(needed + 1),

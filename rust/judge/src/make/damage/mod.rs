@@ -10,7 +10,6 @@ mod streams;
 pub use blind::{blind, noise};
 pub use section_1::broken_data as broken_section_1;
 pub use section_2::broken_data as broken_section_2;
-pub use streams::{coded, overflowing};
 
 use super::draft::{Coding, Draft, Holds, Wish};
 use super::plan::{mend, mend_check};

@@ -90,7 +90,7 @@ fn any_stream<'a>(rng: &mut Rng, rhythm: &'a mut Rhythm, lead: usize) -> &'a mut
 
 /// The code of each value in the first table that can be found, or two bytes; all values have 16
 /// bits.
-pub fn coded(tables: Option<&Tables>, values: &[i32]) -> Vec<u8> {
+fn coded(tables: Option<&Tables>, values: &[i32]) -> Vec<u8> {
     let Some(tables) = tables else {
         return values
             .iter()
@@ -107,7 +107,7 @@ pub fn coded(tables: Option<&Tables>, values: &[i32]) -> Vec<u8> {
 }
 
 /// Values that reach a limit of 16 bits and then go one or more beyond it.
-pub fn overflowing(rng: &mut Rng, order: u8, count: usize) -> Vec<i32> {
+fn overflowing(rng: &mut Rng, order: u8, count: usize) -> Vec<i32> {
     let end: i32 = rng.pick(&[32_767, -32_768]);
     let near = end - end.signum() * rng.small(3) as i32;
     let over = end.signum() * (1 + rng.small(8) as i32) + end - near;
