@@ -1,6 +1,8 @@
 // The auditor's theorems: specs/ states them and has the table of examples, proofs/ shows them. The functions here change nothing and answer
 // nothing. They ensure what theorems ask of samples and of a job: every call meets it, by the types of what it lends. Of bytes,
 // `wire::bytes_fit` ensures it.
+#![tactic(auto)]
+
 ghost use Rattle.std.specs.Prelude.{◌≡◌, true};
 ghost use Rattle.wire.specs.RuleWords.{every};
 ghost use Rattle.samples.specs.Trace.{fits16};

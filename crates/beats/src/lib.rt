@@ -1,4 +1,6 @@
 // The reference beat added to a lead's samples (01, Leads and samples): one pass over samples and zones.
+#![tactic(auto)]
+
 ghost use Rattle.std.specs.Prelude.{◌≡◌, true, false, ℕ, ◌+◌, ◌-◌, ◌<◌, ◌≤◌, length};
 ghost use Rattle.bits.specs.InnerRaised.{sample_zero, from_zero};
 ghost use Rattle.entries.specs.Section4.{qrs_count, qrs_type, zone_end, section4_right};

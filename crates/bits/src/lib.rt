@@ -1,5 +1,7 @@
 // Bits of bytes, the most significant first, through a window: the next bits of a stream, at least 57 where there are that many, as
 // the top of a 64-bit number (01, Code tables).
+#![tactic(auto)]
+
 ghost use Rattle.std.specs.Prelude.{◌≡◌, ◌++◌, ◌+◌, ◌-◌, ◌*◌, ◌/◌, ◌%◌, ◌^◌, ◌<◌, ◌≤◌, length, take, drop, replicate};
 ghost use Rattle.bits.specs.Bits.{bits_in, number_of};
 ghost use Rattle.bits.specs.InnerWindow.{Window, turned};

@@ -1,6 +1,8 @@
 // The code tables taken apart once for a lead, into the one form that reading and searching run on: 385 numbers a table (how many
 // structures, then six numbers for each), so that matching a code is a shift and a comparison. The eight tables are followed by 256
 // numbers a table: for each first eight bits of a stream, the structure to try first.
+#![tactic(auto)]
+
 ghost use Rattle.std.specs.Prelude.{◌≡◌, true, [], ◌++◌, ℕ, ◌+◌, ◌*◌, ◌/◌, ◌^◌, ◌<◌, ◌≤◌, length, get_or, take, drop};
 ghost use Rattle.wire.specs.RuleWords.{every};
 ghost use Rattle.tables.specs.Structures.{structure_right, structures_at};
@@ -22,7 +24,7 @@ const GUESSES_OF_A_TABLE: usize = 256;
 pub const ROOM: usize = 5128;
 
 // A structure as the engines hold it.
-#[derive(Drop)]
+#[derive(Clone, Copy)]
 pub struct Form {
     pub prefix: usize,
     pub remainder: usize,

@@ -1,5 +1,7 @@
 // Writing a record (01, Refusal numbers; refusals 6, 7, 11 and 15 to 17): all is judged and every stream is sized before a byte of the
 // output is touched; then each section is written into its own part of it, in place.
+#![tactic(auto)]
+
 ghost use Rattle.std.specs.Prelude.{◌≡◌, true, List, [], ◌++◌, ℕ, ◌+◌, ◌*◌, ◌<◌, ◌≤◌, min, length, take, drop};
 ghost use Rattle.std.proofs.Math.Option.{Option};
 ghost use Rattle.wire.specs.RuleWords.{all_in};
@@ -17,14 +19,14 @@ ghost use Rattle.compose.specs.InnerJob.{Sound, Listed, front_size, count6, size
 
 // The answer of writing a record: 0 or a refusal number, and on a refusal nothing else; the record's length.
 #[repr(C)]
-#[derive(Drop)]
+#[derive(Clone, Copy)]
 pub struct Written {
     pub refusal: u8,
     pub bytes: u32,
 }
 
 // The numbers of a job that apply to all of its leads.
-#[derive(Drop)]
+#[derive(Clone, Copy)]
 pub struct Head {
     pub version: u8,
     pub flags: u8,

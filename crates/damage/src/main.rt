@@ -2,6 +2,8 @@
 // identifier's place and length, the rows whose rules are broken, each asked alone, the leads at places 0 to 3 with their samples, and the
 // auditor's index as it grows; at the end its bytes, where the entries of 007 and of 7 are in it, and what merging it with itself, with a
 // damaged one, and into too little room answers.
+#![tactic(auto)]
+
 use fields::Place;
 use filing::Indexed;
 use leads::Lead;

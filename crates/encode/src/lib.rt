@@ -1,4 +1,6 @@
 // Encoding one lead: the shortest stream, packed at the front of the output (the third demand; refusals 7, 11 and 15 to 17).
+#![tactic(auto)]
+
 ghost use Rattle.std.specs.Prelude.{◌≡◌, true, List, [], ◌++◌, ℕ, suc, ◌+◌, ◌*◌, ◌/◌, ◌%◌, ◌^◌, ◌<◌, ◌≤◌, pos, length, get_or, take, drop, replicate};
 ghost use Rattle.std.proofs.Math.Option.{Option, some};
 ghost use Rattle.packing.specs.Packing.{packed, bytes_for};
@@ -17,7 +19,7 @@ use packing::Sink;
 
 // The answer of encoding a lead: 0 or a refusal number, and on a refusal nothing else; the stream's bytes and bits.
 #[repr(C)]
-#[derive(Drop)]
+#[derive(Clone, Copy)]
 pub struct Coded {
     pub refusal: u8,
     pub bytes: u32,
@@ -44,7 +46,7 @@ fn put_code(sink: Sink, out: &mut [u8], f: Form, xs: &[i16], order: usize, i: us
 }
 
 // How far the walk of a stream has gone: what is written, the next sample, the table, and how many bits are left.
-#[derive(Drop)]
+#[derive(Clone, Copy)]
 struct Gone {
     sink: Sink,
     i: usize,

@@ -1,5 +1,7 @@
 // Sections 3, 4, 5 and 6 judged one by one (01, Leads and samples; refusal 8): leads, streams and the beat's zones. A slice `s` is a
 // section with its header. Every byte string is answered.
+#![tactic(auto)]
+
 ghost use Rattle.std.specs.Prelude.{◌≡◌, ◌+◌, ◌*◌, ◌<◌, ◌≤◌, length};
 ghost use Rattle.wire.specs.RuleWords.{all_in};
 ghost use Rattle.entries.specs.Section3.{lead_count, flags_of, lead_id, first_sample, last_sample, sample_count, lead_right, section3_right};

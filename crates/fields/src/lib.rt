@@ -1,5 +1,7 @@
 // Header fields of a record (01, Header fields and the patient identifier): a field by tag and occurrence as a part of the lent record
 // itself (refusals 1 to 6 and 10), the start of a walk, and whether two identifiers are the same.
+#![tactic(auto)]
+
 ghost use Rattle.std.specs.Prelude.{◌≡◌, ◌+◌};
 ghost use Rattle.record.specs.Opening.{open_refusal};
 ghost use Rattle.fields.specs.Lookup.{field_place, walk_place, refusal_of, part_start, part_bytes};
@@ -9,7 +11,7 @@ ghost use Rattle.fields.specs.Recording.{field_of, identifier_of};
 use header::Step;
 
 // A part of the record, its first place and how many bytes it has; or the refusal.
-#[derive(Drop)]
+#[derive(Clone, Copy)]
 pub enum Place {
     At(usize, usize),
     Refused(u8),

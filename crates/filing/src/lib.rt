@@ -1,5 +1,7 @@
 // Adding a record to the auditor's index (02, Q-13): its entry, the place where it goes, and the bytes afterwards (refusals 26, 1 to 6, 8,
 // 24 and 11).
+#![tactic(auto)]
+
 ghost use Rattle.std.specs.Prelude.{◌≡◌, ◌++◌, ◌+◌, ◌<◌, ◌≤◌, length, take, drop};
 ghost use Rattle.wire.specs.Numbers.{part};
 ghost use Rattle.record.specs.Opening.{open_refusal};
@@ -15,7 +17,7 @@ use packing::Sink;
 
 // The answer: the refusal, or 0 and how many bytes of the index are in use now.
 #[repr(C)]
-#[derive(Drop)]
+#[derive(Clone, Copy)]
 pub struct Indexed {
     pub refusal: u8,
     pub used: usize,

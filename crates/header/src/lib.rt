@@ -1,5 +1,7 @@
 // Section 1's data: the walk over its fields, a field by tag and occurrence, and the rule that the data keep
 // (01, Header fields and the patient identifier; refusal 6). Every place and number is answered.
+#![tactic(auto)]
+
 ghost use Rattle.std.specs.Prelude.{◌≡◌, not, eqb};
 ghost use Rattle.wire.specs.Numbers.{byte_at};
 ghost use Rattle.wire.specs.RuleWords.{all_in};
@@ -7,7 +9,7 @@ ghost use Rattle.header.specs.Fields.{step_at, fields_from, fields_end, with_tag
 ghost use Rattle.header.specs.Header.{ends_at, sole, found_keeps, is_identifier, any_field, has_size, section1_right};
 
 // A field: its tag, and its bytes from `start` up to `end` of the list that was walked.
-#[derive(Drop)]
+#[derive(Clone, Copy)]
 pub struct Field {
     pub tag: u8,
     pub start: usize,
@@ -15,7 +17,7 @@ pub struct Field {
 }
 
 // A step of the walk shows a field, or the end.
-#[derive(Drop)]
+#[derive(Clone, Copy)]
 pub enum Step {
     Found(Field),
     End,

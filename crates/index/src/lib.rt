@@ -1,5 +1,7 @@
 // The auditor's index (02, Q-13): its entries step by step, whether bytes are an index, and the part of it that holds an identifier's
 // entries (refusal 26). Every byte string and every place is answered.
+#![tactic(auto)]
+
 ghost use Rattle.std.specs.Prelude.{◌≡◌, [], true, ◌+◌, ◌≤◌, min, length, take, drop};
 ghost use Rattle.bits.specs.Bits.{bits_in};
 ghost use Rattle.bits.specs.InnerWindow.{Window};
@@ -13,7 +15,7 @@ use fields::Place;
 
 // An entry as a step shows it: its numbers, where its identifier is, and the place behind it; `more` is 0 where there is none.
 #[repr(C)]
-#[derive(Drop)]
+#[derive(Clone, Copy)]
 pub struct IndexEntry {
     pub more: u8,
     pub month: u8,
@@ -26,7 +28,7 @@ pub struct IndexEntry {
 }
 
 // The day of a recording.
-#[derive(Drop)]
+#[derive(Clone, Copy)]
 pub struct Date {
     pub year: u16,
     pub month: u8,

@@ -1,5 +1,7 @@
 // The writers of a record's sections, each into its own part of the output, in place (01, The record; 01, Refusal numbers, the
 // paragraphs under the table).
+#![tactic(auto)]
+
 ghost use Rattle.std.specs.Prelude.{◌≡◌, List, ◌∷◌, ◌++◌, cond, ℕ, ◌+◌, ◌-◌, ◌*◌, ◌≤◌, ◌<◌, eqb, length, get_or, replicate, take, drop};
 ghost use Rattle.wire.specs.Numbers.{bytes_of};
 ghost use Rattle.layout.specs.Layout.{evened, section_length, checked, section_bytes, zero_reserved, letters};

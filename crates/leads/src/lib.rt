@@ -1,6 +1,8 @@
 // Reading a lead, every sample exact (01, Leads and samples; refusals 1 to 14). The beat's stream is read into the work space, the
 // lead's into room of its own, and the output is written when all is right: a refusal changes nothing but the work space. The answer
 // has the sum of the structures compared (Q-6).
+#![tactic(auto)]
+
 ghost use Rattle.std.specs.Prelude.{◌≡◌, true, false, List, ◌++◌, ℕ, ◌+◌, ◌-◌, ◌*◌, ◌<◌, ◌≤◌, ℤ, pos, length, take, drop, replicate};
 ghost use Rattle.rules.specs.LeadRules.{tables_right, lead_count_of, beat_subtracted, beat_sample_count, lead_refusal};
 ghost use Rattle.compiled.specs.InnerForm.{room_numbers, CompiledOrNone};
@@ -15,7 +17,7 @@ use traces::Rebuilt;
 
 // The answer of reading a lead, beside its samples: 0 or a refusal number, and on a refusal nothing else.
 #[repr(C)]
-#[derive(Drop)]
+#[derive(Clone, Copy)]
 pub struct Lead {
     pub refusal: u8,
     pub id: u8,
@@ -29,7 +31,7 @@ pub struct Lead {
 
 // The facts that Sections 3 and 6 give of a lead; on a refusal its number alone.
 #[repr(C)]
-#[derive(Drop)]
+#[derive(Clone, Copy)]
 pub struct Entry {
     pub refusal: u8,
     pub id: u8,

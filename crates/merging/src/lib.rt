@@ -1,4 +1,6 @@
 // Merging two of the auditor's indexes into one: b's entries go in among a's, each behind all that are not greater (refusals 26 and 11).
+#![tactic(auto)]
+
 ghost use Rattle.std.specs.Prelude.{◌≡◌, true, ◌++◌, ◌+◌, ◌≤◌, ◌<◌, length, take, drop};
 ghost use Rattle.wire.specs.Numbers.{part};
 ghost use Rattle.index.specs.Index.{index_bytes, entries_in, is_index};
@@ -9,7 +11,7 @@ ghost use Rattle.merging.specs.InnerMerging.{Next};
 use filing::Indexed;
 
 // How far each index has been copied.
-#[derive(Drop)]
+#[derive(Clone, Copy)]
 struct Reached {
     a: usize,
     b: usize,

@@ -1,11 +1,13 @@
 // Bits packed into bytes, in place (01, Leads and samples): a sink goes by value, with the bits that do not fill a byte yet.
+#![tactic(auto)]
+
 ghost use Rattle.std.specs.Prelude.{◌≡◌, List, [], ◌++◌, ℕ, ◌+◌, ◌*◌, ◌/◌, ◌%◌, ◌^◌, ◌<◌, ◌≤◌, length, drop};
 ghost use Rattle.bits.specs.Bits.{high_first};
 ghost use Rattle.packing.specs.Packing.{packed, bytes_for};
 ghost use Rattle.packing.specs.InnerSink.{Holds};
 
 // A place in the output, and the bits before it that do not fill a byte yet.
-#[derive(Drop)]
+#[derive(Clone, Copy)]
 pub struct Sink {
     pub at: usize,
     pub acc: u64,

@@ -1,1 +1,2 @@
 // Streams compared, and the mathematics of the search for the shortest one. No code.
+#![tactic(auto)]

@@ -1,5 +1,7 @@
 // Section 0's pointers, each as stored, and the sections that they point to (01, The record). Every byte string is answered: a
 // record that is too short holds zeros where a number is wanted, and a section is what is there of it.
+#![tactic(auto)]
+
 ghost use Rattle.std.specs.Prelude.{◌≡◌, ◌++◌, ◌+◌, ◌*◌, ◌<◌, ◌≤◌, length, take, drop};
 ghost use Rattle.pointers.specs.Pointers.{count_of, id_of, length_of, index_of, present, start_of, end_of, section_of, pointers_from};
 

@@ -2,6 +2,8 @@
 // table's number, and its methods hand back the moved cursor, which has also summed up the structures compared (Q-6). Reading a value
 // and following a switch call each other; the bits left fall at each code, and the depth is bounded, with a loop around it, so that no
 // stream can exhaust the stack.
+#![tactic(auto)]
+
 ghost use Rattle.std.specs.Prelude.{◌≡◌, true, List, [], ℕ, suc, ◌+◌, ◌*◌, ◌^◌, ◌<◌, ◌≤◌, length, get_or, drop};
 ghost use Rattle.wire.specs.Bounds.{most_structures};
 ghost use Rattle.bits.specs.Bits.{bits_in, signed, begins};
@@ -17,7 +19,7 @@ use compiled::Form;
 
 // A place in a stream of bits, the number of the current table, and how many structures were compared on the way: for each code as many
 // as the place of the matched structure in its table.
-#[derive(Drop)]
+#[derive(Clone, Copy)]
 pub struct Cursor {
     pub at: usize,
     pub table: usize,
@@ -25,21 +27,21 @@ pub struct Cursor {
 }
 
 // The answer of reading a value: the value, 131,072 added, and the moved cursor; or that the code matches nothing or runs out.
-#[derive(Drop)]
+#[derive(Clone, Copy)]
 pub enum Read {
     Value(usize, Cursor),
     Stuck,
 }
 
 // The result of a burst of codes: an answer, or the place where reading goes on.
-#[derive(Drop)]
+#[derive(Clone, Copy)]
 pub enum Burst {
     Ended(Read),
     More(Cursor),
 }
 
 // The form of the structure whose prefix the bits begin with, and its place in the table, from 1.
-#[derive(Drop)]
+#[derive(Clone, Copy)]
 pub enum Found {
     At(Form, usize),
     Nothing,

@@ -1,5 +1,7 @@
 // Opening a record (01, The record): the rules of refusals 1 to 6, and each pointer as stored.
 // Every function answers for any bytes; `refusal_of` asks the rules in their order, so that later ones meet only sound bytes.
+#![tactic(auto)]
+
 ghost use Rattle.std.specs.Prelude.{◌≡◌, ◌<◌, ◌≤◌};
 ghost use Rattle.wire.specs.RuleWords.{all_in};
 ghost use Rattle.pointers.specs.Pointers.{count_of};
@@ -7,7 +9,7 @@ ghost use Rattle.record.specs.RecordRules.{length_right, record_check_right, let
 ghost use Rattle.record.specs.Opening.{open_refusal, open_count, open_numbers};
 
 // The answer of opening: the refusal, or 0 and the number of pointers.
-#[derive(Drop)]
+#[derive(Clone, Copy)]
 pub struct Opened {
     pub refusal: u8,
     pub count: u32,

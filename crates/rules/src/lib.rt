@@ -1,5 +1,7 @@
 // The rules that reading a lead asks of a record before any stream is read (01, Leads and samples; refusals 7 to 10), each alone, and the
 // smallest of 1 to 10 that applies. All leads' entries are judged, whatever place is asked for.
+#![tactic(auto)]
+
 ghost use Rattle.std.specs.Prelude.{◌≡◌, ◌<◌, ◌≤◌};
 ghost use Rattle.pointers.specs.Pointers.{section_of};
 ghost use Rattle.entries.specs.Sections5And6.{step_of, interval_of};

@@ -1,5 +1,7 @@
 // Samples and their differences (01, Leads and samples), on numbers that need no sign: a sample with 32,768 added, a stored value with
 // 131,072. Nothing can wrap.
+#![tactic(auto)]
+
 ghost use Rattle.std.specs.Prelude.{◌≡◌, true, false, ◌-◌, min, ◌<◌, ◌≤◌, pos, length, get_or};
 ghost use Rattle.bits.specs.InnerRaised.{sample_zero, value_zero, from_zero};
 ghost use Rattle.samples.specs.Differences.{stored_of, sample_of, differences};

@@ -1,5 +1,7 @@
 // The C boundary: each call passes on a chapter's call, on numbers and slices, with that call's contract and no `requires`.
 // A refusal is 01's number; with one, every other field is 0 and no lent element is changed but the work space's, which is zeros once used.
+#![tactic(auto)]
+
 ghost use Rattle.std.specs.Prelude.{◌≡◌, not, length};
 ghost use Rattle.wire.specs.Check.{crc_of};
 ghost use Rattle.header.specs.Fields.{step_at};
@@ -26,7 +28,7 @@ use index::IndexEntry;
 use leads::{Entry, Lead};
 
 #[repr(C)]
-#[derive(Drop)]
+#[derive(Clone, Copy)]
 pub struct ScpOpened {
     pub refusal: u8,
     pub count: u32,
@@ -34,7 +36,7 @@ pub struct ScpOpened {
 
 // A part of the record or of the index lent.
 #[repr(C)]
-#[derive(Drop)]
+#[derive(Clone, Copy)]
 pub struct ScpPart {
     pub refusal: u8,
     pub start: usize,
@@ -43,7 +45,7 @@ pub struct ScpPart {
 
 // A step of the walk: a field if `more` is 1, else the end.
 #[repr(C)]
-#[derive(Drop)]
+#[derive(Clone, Copy)]
 pub struct ScpStep {
     pub more: u8,
     pub tag: u8,

@@ -1,5 +1,7 @@
 // The search for the shortest stream (the third demand; 01, Refusal numbers 15 and 16): from the last sample to the first, what the
 // values from there on cost from each table on, and the structure with which the best stream begins.
+#![tactic(auto)]
+
 ghost use Rattle.std.specs.Prelude.{◌≡◌, true, false, List, ◌⊎◌, ℕ, suc, ◌+◌, ◌-◌, ◌*◌, ◌<◌, ◌≤◌, ℤ, length, get_or};
 ghost use Rattle.bits.specs.InnerRaised.{value_zero, from_zero};
 ghost use Rattle.samples.specs.Differences.{differences};

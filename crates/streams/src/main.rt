@@ -1,6 +1,8 @@
 // Reads the published streams by the library and writes each result on a line of its own: the values, or how many where they are more
 // than 100, 12 where reading is stuck, behind a bar the bits that the values took, and behind another the structures compared; or 7 where
 // Section 2 is not right. The last two lines are of the longest lead, 65,535 bytes: all switches, and all codes of one bit.
+#![tactic(auto)]
+
 ghost use Rattle.std.specs.Prelude.{◌≤◌, length};
 ghost use Rattle.compiled.specs.InnerForm.{CompiledSomeOrNone};
 

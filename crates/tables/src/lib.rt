@@ -1,4 +1,6 @@
 // Section 2's data judged whole (01, Code tables; refusal 7), and the default table.
+#![tactic(auto)]
+
 ghost use Rattle.std.specs.Prelude.{◌≡◌, ◌+◌, ◌*◌, ◌<◌, ◌≤◌, get_or};
 ghost use Rattle.tables.specs.Structures.{structure_at, structures_at, mode_right, structure_right, apart, prefix_free, no_structure};
 ghost use Rattle.tables.specs.Default.{default_table};
@@ -6,7 +8,7 @@ ghost use Rattle.wire.specs.RuleWords.{every};
 ghost use Rattle.tables.specs.Section2.{is_default, table_at, after_table, tables_from, after_tables, table_right, section2_right};
 
 // A code structure; the base value without its sign.
-#[derive(Drop)]
+#[derive(Clone, Copy)]
 pub struct Structure {
     pub prefix: usize,
     pub whole: usize,

@@ -1,5 +1,7 @@
 // Rebuilding a lead or a beat from its stream (01, Leads and samples; refusals 12 to 14): each code is read once, into room whose
 // contents count only where nothing was refused. The structures compared are summed up (Q-6).
+#![tactic(auto)]
+
 ghost use Rattle.std.specs.Prelude.{◌≡◌, List, ℕ, suc, ◌+◌, ◌*◌, ◌<◌, ◌≤◌, length, drop};
 ghost use Rattle.wire.specs.Bounds.{most_structures};
 ghost use Rattle.bits.specs.Bits.{bits_in};
@@ -15,14 +17,14 @@ ghost use Rattle.traces.specs.InnerTrace.{trace_from, SampledWithin, SampledSum}
 use reading::{Cursor, Read};
 
 // The answer of a step: a sample, 32,768 added, and the cursor behind its code; or the number of the fault met.
-#[derive(Drop)]
+#[derive(Clone, Copy)]
 pub enum Sampled {
     Sample(usize, Cursor),
     Fault(u8),
 }
 
 // The end of rebuilding: 0, or the number of the first fault met; and, where it is 0, how many structures were compared.
-#[derive(Drop)]
+#[derive(Clone, Copy)]
 pub struct Rebuilt {
     pub fault: u8,
     pub compared: usize,

@@ -1,1 +1,2 @@
 // The reader gives back what the writer writes: a theorem over the definitions.
+#![tactic(auto)]

@@ -1,5 +1,7 @@
 // A walk over the header fields of a record (01, Header fields and the patient identifier; 01, The forms we expect): a small struct
 // that holds Section 1 as a part of the lent record itself, and a place in it. A step shows what is there; the next walker is past it.
+#![tactic(auto)]
+
 ghost use Rattle.std.specs.Prelude.{◌≡◌, ◌+◌};
 ghost use Rattle.header.specs.Fields.{step_at, shown_bytes};
 ghost use Rattle.pointers.specs.Pointers.{data_at};
@@ -11,14 +13,14 @@ use fields::Place;
 use header::Step;
 
 // Section 1 whole, its header with it, and the place of the next step.
-#[derive(Drop)]
+#[derive(Clone, Copy)]
 pub struct Walker<'a> {
     pub section: &'a [u8],
     pub at: usize,
 }
 
 // The answer of a step: a field's bytes, a part of the section itself, and its tag; or, with `more` false, the end.
-#[derive(Drop)]
+#[derive(Clone, Copy)]
 pub struct Shown<'a> {
     pub bytes: &'a [u8],
     pub tag: u8,
@@ -26,7 +28,7 @@ pub struct Shown<'a> {
 }
 
 // All of that but the bytes.
-#[derive(Drop)]
+#[derive(Clone, Copy)]
 pub struct Facts {
     pub tag: u8,
     pub more: bool,

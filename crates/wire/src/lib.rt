@@ -1,5 +1,7 @@
 // Numbers in bytes and the check over bytes (01, The record): what every other chapter reads and writes with.
 // Every public read answers for any place: a byte past the end counts as 0, and a part is what is there of it.
+#![tactic(auto)]
+
 ghost use Rattle.std.specs.Prelude.{◌≡◌, true, ◌++◌, ℕ, ◌+◌, ◌^◌, ◌≤◌, ◌<◌, length, take, drop};
 ghost use Rattle.wire.specs.Numbers.{byte_at, number_at, bytes_of, part};
 ghost use Rattle.wire.specs.Check.{crc_byte, crc_from, crc_of};
@@ -191,7 +193,7 @@ fn by_words(w: u64, s: &[u8], at: usize) -> u16
 }
 
 // Sixteen words, the first first.
-#[derive(Drop)]
+#[derive(Clone, Copy)]
 struct Words {
     w0: u64,
     w1: u64,
