@@ -99,7 +99,7 @@ fn hold_tables(rec: &[u8], tab: &mut [u32]) -> usize
 // Lead k's stream in Section 5 or 6 is rebuilt into the room.
 fn stream_into(rec: &[u8], section: usize, k: usize, tab: &[u32], room: &mut [i16]) -> Rebuilt
     requires { CompiledOrNone (tables_of rec.now) tab.now × (section < 64) × (k < lead_count_of rec.now) }
-    ensures room_after { (trace_of result.fault room.new ≡ stream_trace rec.now section (length room.old) k)
+    ensures traced { (trace_of result.fault room.new ≡ stream_trace rec.now section (length room.old) k)
         × (length room.new ≡ length room.old) }
     ensures summed { Summed (stream_compared rec.now section (length room.old) k) most_sum result }
 {
@@ -114,7 +114,7 @@ fn with_beat(rec: &[u8], k: usize, tab: &[u32], room: &mut [i16], beat: &mut [i1
     requires readable { Readable rec.now k (length beat.old) }
     requires room_len { (length room.old ≡ sample_count_at rec.now k) × (length beat.old ≡ beat_sample_count rec.now)
         × (beat_subtracted rec.now ≡ true) }
-    ensures room_after { (trace_of result.fault room.new ≡ trace_at rec.now k) × (length room.new ≡ length room.old) }
+    ensures traced { (trace_of result.fault room.new ≡ trace_at rec.now k) × (length room.new ≡ length room.old) }
     ensures summed { Summed (compared_at rec.now k) (2 * most_sum) result }
 {
     let first = entries::first_sample(pointers::section_of(rec, 3), k);
@@ -140,7 +140,7 @@ fn lead_into(rec: &[u8], k: usize, tab: &[u32], room: &mut [i16], work: &mut [i1
     requires compiled_or_none { CompiledOrNone (tables_of rec.now) tab.now }
     requires readable { Readable rec.now k (length work.old) }
     requires room_len { length room.old ≡ sample_count_at rec.now k }
-    ensures room_after { (trace_of result.fault room.new ≡ trace_at rec.now k)
+    ensures traced { (trace_of result.fault room.new ≡ trace_at rec.now k)
         × (length room.new ≡ length room.old)
         × (work.new ≡ cleared_if (beat_subtracted rec.now) work.old) }
     ensures summed { Summed (compared_at rec.now k) (2 * most_sum) result }
@@ -166,7 +166,7 @@ fn lead_out(
     requires compiled_or_none { CompiledOrNone (tables_of rec.now) tab.now }
     requires readable { Readable rec.now k (length work.old) }
     requires room_len { (length room.old ≡ sample_count_at rec.now k) × (sample_count_at rec.now k ≤ length out.old) }
-    ensures out_after { ((xs : List ℤ) × (trace_of result.fault xs ≡ trace_at rec.now k))
+    ensures traced { ((xs : List ℤ) × (trace_of result.fault xs ≡ trace_at rec.now k))
         × (out.new ≡ out_after (trace_at rec.now k) out.old)
         × (work.new ≡ cleared_if (beat_subtracted rec.now) work.old) }
     ensures summed { Summed (compared_at rec.now k) (2 * most_sum) result }
@@ -191,7 +191,7 @@ fn read_in(
     requires compiled_or_none { CompiledOrNone (tables_of rec.now) tab.now }
     requires readable { Readable rec.now k (length work.old) }
     requires k_in_bounds { (sample_count_at rec.now k ≤ length room.old) × (sample_count_at rec.now k ≤ length out.old) }
-    ensures out_after { ((xs : List ℤ) × (trace_of result.fault xs ≡ trace_at rec.now k))
+    ensures traced { ((xs : List ℤ) × (trace_of result.fault xs ≡ trace_at rec.now k))
         × (out.new ≡ out_after (trace_at rec.now k) out.old)
         × (work.new ≡ cleared_if (beat_subtracted rec.now) work.old) }
     ensures summed { Summed (compared_at rec.now k) (2 * most_sum) result }
@@ -204,7 +204,7 @@ fn read_in(
 fn read_into(rec: &[u8], k: usize, out: &mut [i16], work: &mut [i16]) -> Rebuilt
     requires readable { Readable rec.now k (length work.old) }
     requires k_in_bounds { sample_count_at rec.now k ≤ length out.old }
-    ensures out_after { ((xs : List ℤ) × (trace_of result.fault xs ≡ trace_at rec.now k))
+    ensures traced { ((xs : List ℤ) × (trace_of result.fault xs ≡ trace_at rec.now k))
         × (out.new ≡ out_after (trace_at rec.now k) out.old)
         × (work.new ≡ cleared_if (beat_subtracted rec.now) work.old) }
     ensures summed { Summed (compared_at rec.now k) (2 * most_sum) result }

@@ -72,7 +72,7 @@ fn next_sample(
 // The room is filled with the samples that a stream is rebuilt to.
 pub fn rebuild(s: &[u8], tab: &[u32], order: usize, room: &mut [i16]) -> Rebuilt
     requires { CompiledSomeOrNone tab.now × (length s.now ≤ 1048576) }
-    ensures room_len_unchanged { ((tables : List (List Structure)) → CompiledOrNone tables tab.now
+    ensures traced { ((tables : List (List Structure)) → CompiledOrNone tables tab.now
         → trace_of result.fault room.new ≡ rebuild tables order (length room.old) (bits_in s.now))
         × (length room.new ≡ length room.old) }
     ensures summed { ((tables : List (List Structure)) → CompiledOrNone tables tab.now → result.fault ≡ 0

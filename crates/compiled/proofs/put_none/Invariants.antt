@@ -1,0 +1,18 @@
+-- With the tables below t done, those from n on have no structure, and the numbers below table n are as they were.
+use Prim.Native.Nat.{ℕ, ◌-◌, ◌*◌, ◌≤◌, ◌<◌}
+use mathlib.Core.Path.{◌≡◌, refl, ◌∙◌}
+use mathlib.Core.List.{[]}
+use native.Mathlib.Omega.{arith}
+use lib.ListN.{length, get_or, length-set}
+use lib.Seq.{get_or-set_other}
+use Rattle.compiled.specs.InnerForm.{Says}
+use Rattle.compiled.proofs.Putting.{none_turn}
+use Rattle.compiled.proofs.put_none.Given as goal
+
+abbrev pub invariant-loop-t : goal.invariant-loop-t
+invariant-loop-t l = (l.n ≤ l.t) × (l.t ≤ 8) × (length l.tab ≡ 5128)
+    × ((u : ℕ) → u < l.t → l.n ≤ u → Says [] l.tab u)
+    × ((i : ℕ) → i < l.n * 385 → get_or l.tab i 0 ≡ get_or l.initial.tab i 0)
+
+abbrev pub decreases-loop-t : goal.decreases-loop-t
+decreases-loop-t l = 8 - l.t

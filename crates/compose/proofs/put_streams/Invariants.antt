@@ -1,0 +1,24 @@
+-- The leads from k on are put; their samples begin at at, their streams at from.
+use Prim.Native.Nat.{ℕ, ◌+◌, ◌-◌, ◌≤◌}
+use mathlib.Core.Path.{◌≡◌, refl, sym, ◌∙◌}
+use mathlib.Core.List.{List}
+use native.Mathlib.Omega.{arith}
+use native.Mathlib.Nat.{le_refl, le_trans, le_of_eq, sub-le, mul-le-mul_right}
+use borrow.Rule.Slice.PartMut.{mid_len, same_len_mid}
+use lib.ListN.{length, get_or, drop}
+use Rattle.layout.specs.Layout.{joined}
+use Rattle.encode.specs.Encoding.{tables_given}
+use Rattle.compose.specs.Writing.{total, cut}
+use Rattle.compose.specs.InnerSizes.{StreamsFor}
+use Rattle.compose.proofs.Sizes.{in_longest, room_back, place_back, length_lent, places_start, places_done}
+use Rattle.compose.proofs.Streams.{stream_here, put_none, put_more, put_all}
+use Rattle.compose.proofs.put_streams.Given as goal
+
+abbrev pub invariant-loop-k : goal.invariant-loop-k
+invariant-loop-k l = (l.k ≤ length l.counts) ×
+    (l.at + total (drop l.k l.counts) ≡ length l.xs) × (l.from + total (drop l.k l.sizes) ≡ length l.initial.part) × (length l.work ≡ length l.initial.work) ×
+    (length l.part ≡ length l.initial.part) × ((streams : List (List ℕ)) → StreamsFor l.section2 l.order (cut (drop l.k l.counts) (drop l.at l.xs)) streams
+    → drop l.from l.part ≡ joined streams) × (length l.tab ≡ 0 → l.work ≡ l.initial.work)
+
+abbrev pub decreases-loop-k : goal.decreases-loop-k
+decreases-loop-k l = l.k

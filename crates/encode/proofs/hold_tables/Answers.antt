@@ -1,0 +1,23 @@
+-- Without Section 2 there are no tables and no numbers; else the numbers say the tables of its data, which were judged.
+use mathlib.Core.Path.{refl, sym, ap, ◌∙◌}
+use mathlib.Core.Logic.{inr}
+use native.Mathlib.Omega.{arith}
+use Rattle.encode.specs.InnerEncode.{held_for}
+use borrow.Author.Rules.{rules}
+use Rattle.compiled.proofs.Laws.{ready_held}
+use Rattle.encode.proofs.Asked.{tables_none, given_some, tables_some, held_some}
+use Rattle.encode.proofs.hold_tables.Goals as goal
+
+pub returns-then-section2-eq0 : goal.returns-then-section2-eq0
+returns-then-section2-eq0 c = let s = c.args.section2.now in
+    (omega arith, inr (tables_none s c.if-section2-eq0.true, refl), sym (ap held_for c.if-section2-eq0.true))
+
+pub compile-requires : goal.compile-requires
+compile-requires c = 
+    (c.requires.0, omega arith, sym (given_some c.args.section2.now c.if-section2-eq0.false) ∙ c.requires.1)
+
+pub returns : goal.returns
+returns c = let s = c.args.section2.now in
+    let some = c.if-section2-eq0.false in
+    let ready = c.compile.ensures in
+    (omega arith, ready_held (tables_some s some) ready ready.room, held_some s some)

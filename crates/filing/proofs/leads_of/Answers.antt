@@ -1,0 +1,20 @@
+-- Section 3 says how many, where it is there.
+use mathlib.Core.Path.{◌≡◌, sym, ap, ◌∙◌}
+use mathlib.Core.List.{List}
+use Prim.Native.Nat.{ℕ}
+use native.Mathlib.Omega.{arith}
+use Rattle.wire.proofs.Tests.{kept, broken}
+use Rattle.entries.specs.Section3.{lead_count}
+use Rattle.filing.specs.Filing.{leads_of}
+use borrow.Author.Rules.{rules}
+use Rattle.filing.proofs.leads_of.Goals as goal
+
+pub returns-then-not-is_present : goal.returns-then-not-is_present
+unfolding leads_of
+returns-then-not-is_present c = (rw (broken c.is_present.ensures c.if-not-is_present.true), omega arith)
+
+pub returns : goal.returns
+unfolding leads_of
+returns c = let n = c.lead_count.ensures in
+    let there = kept c.is_present.ensures c.if-not-is_present.false in
+    (rw there (n.0 ∙ ap lead_count c.section_of.ensures), n.1)

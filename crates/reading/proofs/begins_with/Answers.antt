@@ -1,0 +1,23 @@
+-- Fewer bits than the prefix do not begin with it; of enough bits the window's first are the turned code where the prefix begins them.
+use Prim.Native.Nat.{◌-◌, ◌/◌, ◌^◌}
+use mathlib.Core.Path.{sym, ap, ap₂, ◌∙◌}
+use native.Mathlib.Omega.{arith}
+use borrow.Author.Rules.{rules}
+use lib.Dec.{eqb}
+use Rattle.bits.proofs.Laws.{begins_short}
+use Rattle.bits.proofs.Windows.{window_begins}
+use Rattle.compiled.specs.declared.Form.{Form}
+use Rattle.compiled.specs.InnerForm.{form_of}
+use Rattle.reading.proofs.begins_with.Goals as goal
+
+pub returns-then-left-p : goal.returns-then-left-p
+unfolding form_of
+returns-then-left-p c d bs e seen = let p = ap (λ (x : Form). x.prefix) e in
+    sym (begins_short d.prefix d.code bs (omega (arith, seen.count)))
+
+pub returns : goal.returns
+unfolding form_of
+returns c d bs e seen = let w = c.args.w in
+    let p = ap (λ (x : Form). x.prefix) e in
+    ap₂ eqb (c.top.ensures ∙ ap (λ (x : Form). w / 2 ^ (64 - x.prefix)) (sym e)) (ap (λ (x : Form). x.word) (sym e))
+    ∙ window_begins bs w d.prefix d.code seen.window seen.small (omega arith) (omega (arith, seen.count))

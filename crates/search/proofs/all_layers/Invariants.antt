@@ -1,0 +1,25 @@
+-- From value i on the costs are exact, and the work space has the way.
+use Prim.Native.Nat.{ℕ, ◌+◌, ◌-◌, ◌*◌, ◌≤◌, ◌<◌}
+use mathlib.Core.Path.{◌≡◌, refl, ◌∙◌, subst}
+use mathlib.Core.List.{List}
+use native.Mathlib.Omega.{arith}
+use borrow.Rule.Slice.PartMut.{put_mid}
+use lib.ListN.{length, drop, replicate, length-take, length-drop, get_or-replicate}
+use Rattle.samples.specs.Differences.{differences}
+use Rattle.samples.proofs.Laws.{length_differences}
+use Rattle.tables.specs.declared.Structure.{Structure}
+use Rattle.compiled.specs.InnerForm.{Compiled}
+use Rattle.paths.specs.InnerPaths.{Exact}
+use Rattle.shortest.specs.InnerRule.{rule}
+use Rattle.search.specs.InnerSearch.{cap, at, Trail, Known, NineCosts}
+use Rattle.search.proofs.Layers.{zeros_exact, part_room, put_in_lem, put_out, step_exact, step_trail}
+use borrow.Author.Rules.{rules}
+use Rattle.search.proofs.all_layers.Given as goal
+
+abbrev pub invariant-loop-i : goal.invariant-loop-i
+invariant-loop-i l = (l.i ≤ length l.xs) × (length l.work ≡ length l.initial.work) × NineCosts l.next × Known l.tab l.known
+    × ((tables : List (List Structure)) → Compiled tables l.tab → length tables ≡ l.n
+    → Exact (rule tables) cap (drop l.i (differences l.order l.xs)) (at l.next) × Trail tables (differences l.order l.xs) l.work l.i)
+
+abbrev pub decreases-loop-i : goal.decreases-loop-i
+decreases-loop-i l = l.i

@@ -1,0 +1,14 @@
+-- None of the tables before t has a switch.
+use Prim.Native.Nat.{ℕ, ◌+◌, ◌-◌, ◌≤◌, ◌<◌}
+use mathlib.Core.Path.{◌≡◌}
+use native.Mathlib.Omega.{arith}
+use borrow.Author.Count.{below_more}
+use Rattle.wire.proofs.Laws.{unlike}
+use Rattle.search.specs.InnerSearch.{count_of, form_in}
+use Rattle.search.proofs.has_switch.Given as goal
+
+abbrev pub invariant-loop-t : goal.invariant-loop-t
+invariant-loop-t l = (1 ≤ l.t) × (l.t ≤ l.n + 1) × (l.n ≤ 8) × ((u : ℕ) → u < l.t → 1 ≤ u → (k : ℕ) → k < count_of l.tab u → (form_in l.tab u k).to ≡ 0)
+
+abbrev pub decreases-loop-t : goal.decreases-loop-t
+decreases-loop-t l = l.n + 1 - l.t

@@ -1,0 +1,49 @@
+-- By the tests: the first, a shorter code, a longer one, one as long.
+use mathlib.Core.Logic.{inr, ⊎_elim}
+use native.Mathlib.Omega.{arith}
+use Rattle.search.proofs.Served.{served_first, served_shorter, served_longer, served_equal}
+use borrow.Author.Rules.{rules}
+use Rattle.search.proofs.nearer.Goals as goal
+
+pub returns-then-best-eq64 : goal.returns-then-best-eq64
+returns-then-best-eq64 c = let p = c.requires in
+    let a = c.args in
+    (λ tables x ready e s. served_first ready a.t (p.0.1, p.0.2) a.k a.best x p.1 e s c.if-best-eq64.true, inr p.1)
+
+pub bits_of-b-requires : goal.bits_of-b-requires
+bits_of-b-requires c = let p = c.requires in (p.0, ⊎_elim (λ e. absurd (c.if-best-eq64.false e)) (λ l. l) p.2)
+
+pub returns-then-a-b : goal.returns-then-a-b
+returns-then-a-b c = let p = c.requires in
+    let a = c.args in
+    let n = c.if-best-eq64.false in
+    let hb = ⊎_elim (λ e. absurd (n e)) (λ l. l) p.2 in (
+      λ tables x ready e s.
+          served_shorter ready a.t (p.0.1, p.0.2) a.k a.best x p.1 e s n hb
+          (omega (arith, c.bits_of-a.ensures.0, c.bits_of-b.ensures.0)),
+      inr p.1,
+    )
+
+pub returns-then-b-a : goal.returns-then-b-a
+returns-then-b-a c = let p = c.requires in
+    let a = c.args in
+    let n = c.if-best-eq64.false in
+    let hb = ⊎_elim (λ e. absurd (n e)) (λ l. l) p.2 in (
+      λ tables x ready e s.
+          served_longer ready a.t (p.0.1, p.0.2) a.k a.best x p.1 e s n hb
+          (omega (arith, c.bits_of-a.ensures.0, c.bits_of-b.ensures.0)),
+      inr hb,
+    )
+
+pub returns : goal.returns
+returns c = let p = c.requires in
+    let a = c.args in
+    let n = c.if-best-eq64.false in
+    let hb = ⊎_elim (λ e. absurd (n e)) (λ l. l) p.2 in
+    let one = c.bits_of-a.ensures.0 in
+    let two = c.bits_of-b.ensures.0 in (
+      λ tables x ready e s.
+          served_equal ready a.t (p.0.1, p.0.2) a.k a.best x p.1 e s n hb c.smaller.result
+          (omega arith) c.smaller.ensures,
+      inr c.smaller.ensures.there,
+    )

@@ -1,0 +1,25 @@
+-- From value i on the one table's cost is exact, and the work space has the way.
+use Prim.Native.Nat.{ℕ, suc, ◌-◌, ◌≤◌, ◌<◌}
+use mathlib.Core.Path.{◌≡◌, refl, subst}
+use mathlib.Core.List.{List, [], ◌∷◌}
+use mathlib.Core.Logic.{⊎_elim}
+use native.Mathlib.Omega.{arith}
+use lib.ListN.{length, set, drop, length-set}
+use Rattle.samples.specs.Differences.{differences}
+use Rattle.samples.proofs.Laws.{length_differences}
+use Rattle.tables.specs.declared.Structure.{Structure}
+use Rattle.compiled.specs.InnerForm.{Compiled}
+use Rattle.paths.specs.InnerPaths.{Exact}
+use Rattle.shortest.specs.InnerRule.{rule}
+use Rattle.search.specs.InnerSearch.{cap, at, Trail, IsNearest, Known}
+use Rattle.search.proofs.Laws.{place_most}
+use Rattle.search.proofs.Layers.{zeros_exact, step_exact, step_trail, alone, one_layer, set_in, set_out}
+use Rattle.search.proofs.one_table.Given as goal
+
+abbrev pub invariant-loop-i : goal.invariant-loop-i
+invariant-loop-i l = (l.i ≤ length l.xs) × (length l.work ≡ length l.initial.work) × (l.cost ≤ suc cap) × Known l.tab l.known
+    × ((tables : List (List Structure)) → Compiled tables l.tab → length tables ≡ 1
+    → Exact (rule tables) cap (drop l.i (differences l.order l.xs)) (at (alone l.cost)) × Trail tables (differences l.order l.xs) l.work l.i)
+
+abbrev pub decreases-loop-i : goal.decreases-loop-i
+decreases-loop-i l = l.i

@@ -1,0 +1,35 @@
+-- The stream is rebuilt to the samples that are in the room, before what is rebuilt from the cursor on.
+use Prim.Native.Nat.{ℕ, suc, ◌+◌, ◌-◌, ◌*◌, ◌≤◌, ◌<◌}
+use mathlib.Core.Path.{◌≡◌, refl, sym, subst, ◌∙◌}
+use mathlib.Core.List.{List}
+use native.Mathlib.Omega.{arith}
+use borrow.Author.Rules.{rules}
+use lib.ListN.{length, take, drop, length-set}
+use mir.Syntax.{w16}
+use mir.Val.{to_z, of_z}
+use Rattle.bits.specs.Bits.{bits_in}
+use Rattle.bits.specs.InnerRaised.{from_zero}
+use Rattle.samples.specs.InnerTrace.{before}
+use Rattle.tables.specs.declared.Structure.{Structure}
+use Rattle.compiled.specs.InnerForm.{CompiledOrNone}
+use Rattle.reading.specs.Compared.{compared_from, compared_of}
+use Rattle.reading.specs.InnerCursor.{Within}
+use Rattle.reading.specs.declared.Cursor.{Cursor}
+use Rattle.reading.proofs.Cursors.{length_left}
+use Rattle.traces.specs.Rebuilding.{rebuild_from, rebuild}
+use Rattle.traces.specs.InnerTrace.{trace_from, SampledWithin, SampledSum}
+use Rattle.traces.specs.declared.Sampled.{Sampled}
+use Rattle.traces.specs.declared.Sampled.TheVariants.{Sample, Fault}
+use Rattle.traces.proofs.Laws.{sum_start, sum_end, room_start, room_turn, room_fault, room_end, room_over}
+use Rattle.traces.proofs.rebuild.Given as goal
+
+abbrev pub invariant-loop-j : goal.invariant-loop-j
+invariant-loop-j l = (l.j ≤ l.n) × (length l.room ≡ length l.initial.room) × Within (length l.s * 8) l.c × (l.last < 65536) × (l.other < 65536)
+    × ((tables : List (List Structure)) → CompiledOrNone tables l.tab
+    → rebuild tables l.order l.n (bits_in l.s)
+    ≡ before (take l.j l.room) (rebuild_from tables l.order (l.n - l.j) l.j (from_zero 32768 l.last) (from_zero 32768 l.other) l.c.table (drop l.c.at (bits_in l.s))))
+    × ((tables : List (List Structure)) → CompiledOrNone tables l.tab
+    → l.c.compared + compared_from tables (l.n - l.j) l.c.table (drop l.c.at (bits_in l.s)) ≡ compared_of tables l.n (bits_in l.s))
+
+abbrev pub decreases-loop-j : goal.decreases-loop-j
+decreases-loop-j l = l.n - l.j
