@@ -1,4 +1,4 @@
-// The C boundary: each call passes on a chapter's call, on numbers and slices, with that call's contract and no `requires`.
+// The calls of the C boundary, which crate scp_c exports: each passes on a chapter's call, on numbers and slices, with that call's contract and no `requires`.
 // A refusal is 01's number; with one, every other field is 0 and no lent element is changed but the work space's, which is zeros once used.
 #![tactic(auto)]
 
@@ -73,16 +73,14 @@ fn part_of(place: Place) -> ScpPart
 }
 
 // The check of bytes.
-#[unsafe(no_mangle)]
-pub extern "C" fn scp_crc(bytes: &[u8]) -> u16
+pub fn scp_crc(bytes: &[u8]) -> u16
     ensures { result ≡ crc_of bytes.now }
 {
     wire::crc(bytes)
 }
 
 // Opening: three numbers for each pointer, its ID, length and index.
-#[unsafe(no_mangle)]
-pub extern "C" fn scp_open(rec: &[u8], pointers: &mut [u32; 192]) -> ScpOpened
+pub fn scp_open(rec: &[u8], pointers: &mut [u32; 192]) -> ScpOpened
     ensures number { result.refusal ≡ open_refusal rec.now }
     ensures count { result.count ≡ open_count rec.now }
     ensures numbers { pointers.new ≡ open_numbers rec.now pointers.old }
@@ -95,16 +93,14 @@ pub extern "C" fn scp_open(rec: &[u8], pointers: &mut [u32; 192]) -> ScpOpened
 }
 
 // A field by tag and occurrence, as a part of the record.
-#[unsafe(no_mangle)]
-pub extern "C" fn scp_field(rec: &[u8], tag: u8, occurrence: usize) -> ScpPart
+pub fn scp_field(rec: &[u8], tag: u8, occurrence: usize) -> ScpPart
     ensures { result ≡ part_at (field_place rec.now tag occurrence) }
 {
     part_of(fields::field_place(rec, tag, occurrence))
 }
 
 // Two identifiers are the same: 1, else 0.
-#[unsafe(no_mangle)]
-pub extern "C" fn scp_same_identifier(a: &[u8], b: &[u8]) -> u8
+pub fn scp_same_identifier(a: &[u8], b: &[u8]) -> u8
     ensures { result ≡ one_if (same a.now b.now) }
 {
     if fields::same_identifier(a, b) {
@@ -114,16 +110,14 @@ pub extern "C" fn scp_same_identifier(a: &[u8], b: &[u8]) -> u8
 }
 
 // Section 1, over which the fields are walked: the first step is at place 16 of it.
-#[unsafe(no_mangle)]
-pub extern "C" fn scp_walk_start(rec: &[u8]) -> ScpPart
+pub fn scp_walk_start(rec: &[u8]) -> ScpPart
     ensures { result ≡ part_at (walk_place rec.now) }
 {
     part_of(fields::walk_place(rec))
 }
 
 // A step of the walk.
-#[unsafe(no_mangle)]
-pub extern "C" fn scp_walk_step(section: &[u8], at: usize) -> ScpStep
+pub fn scp_walk_step(section: &[u8], at: usize) -> ScpStep
     ensures { result ≡ shown at (step_at section.now at) }
 {
     match header::step_at(section, at) {
@@ -149,8 +143,7 @@ pub extern "C" fn scp_walk_step(section: &[u8], at: usize) -> ScpStep
 }
 
 // Reading the lead at a place, from 1: its samples to the front of the output. The work space is used where a beat was subtracted.
-#[unsafe(no_mangle)]
-pub extern "C" fn scp_read_lead(rec: &[u8], place: usize, out: &mut [i16], work: &mut [i16]) -> Lead
+pub fn scp_read_lead(rec: &[u8], place: usize, out: &mut [i16], work: &mut [i16]) -> Lead
     ensures answer { result ≡ lead_answer rec.now place (length out.old) (length work.old) }
     ensures samples { out.new
         ≡ out_after (read_trace rec.now place (length out.old) (length work.old)) out.old }
@@ -160,16 +153,14 @@ pub extern "C" fn scp_read_lead(rec: &[u8], place: usize, out: &mut [i16], work:
 }
 
 // The entry of the lead at a place, from 1, judged as reading it is; no stream is read.
-#[unsafe(no_mangle)]
-pub extern "C" fn scp_lead(rec: &[u8], place: usize) -> Entry
+pub fn scp_lead(rec: &[u8], place: usize) -> Entry
     ensures { result ≡ entry_answer rec.now place }
 {
     leads::lead_entry(rec, place)
 }
 
 // The rule of a row from 1 to 9 is broken, asked alone: 1, else 0.
-#[unsafe(no_mangle)]
-pub extern "C" fn scp_breaks(rec: &[u8], row: u8) -> u8
+pub fn scp_breaks(rec: &[u8], row: u8) -> u8
     ensures { result ≡ one_if (not (row_kept rec.now row)) }
 {
     if rules::row_kept(rec, row) {
@@ -179,8 +170,7 @@ pub extern "C" fn scp_breaks(rec: &[u8], row: u8) -> u8
 }
 
 // Encoding a lead's samples by Section 2's data, none if they are empty: the shortest stream, at the front of the output.
-#[unsafe(no_mangle)]
-pub extern "C" fn scp_encode_lead(
+pub fn scp_encode_lead(
     section2: &[u8],
     samples: &[i16],
     order: u8,
@@ -195,8 +185,7 @@ pub extern "C" fn scp_encode_lead(
 
 // Writing a record: Section 1's data with their end mark, Section 2's (empty: none), the numbers that apply to all leads, and the
 // leads, whose samples follow one another.
-#[unsafe(no_mangle)]
-pub extern "C" fn scp_write_record(
+pub fn scp_write_record(
     section1: &[u8],
     section2: &[u8],
     version: u8,
@@ -230,8 +219,7 @@ pub extern "C" fn scp_write_record(
 }
 
 // Adding a record to the auditor's index, of which `used` bytes are in use.
-#[unsafe(no_mangle)]
-pub extern "C" fn scp_index_add(index: &mut [u8], used: usize, rec: &[u8]) -> Indexed
+pub fn scp_index_add(index: &mut [u8], used: usize, rec: &[u8]) -> Indexed
     ensures answer { result ≡ add_answer index.old used rec.now }
     ensures bytes { index.new ≡ index_after index.old used rec.now }
 {
@@ -239,8 +227,7 @@ pub extern "C" fn scp_index_add(index: &mut [u8], used: usize, rec: &[u8]) -> In
 }
 
 // Merging two indexes, of which all bytes are in use, into the output.
-#[unsafe(no_mangle)]
-pub extern "C" fn scp_index_merge(a: &[u8], b: &[u8], out: &mut [u8]) -> Indexed
+pub fn scp_index_merge(a: &[u8], b: &[u8], out: &mut [u8]) -> Indexed
     ensures answer { result ≡ merge_answer a.now b.now (length out.old) }
     ensures bytes { out.new ≡ merged_into a.now b.now out.old }
 {
@@ -248,16 +235,14 @@ pub extern "C" fn scp_index_merge(a: &[u8], b: &[u8], out: &mut [u8]) -> Indexed
 }
 
 // The entries of an identifier, which comes without its NUL, as a part of the index.
-#[unsafe(no_mangle)]
-pub extern "C" fn scp_index_find(index: &[u8], used: usize, identifier: &[u8]) -> ScpPart
+pub fn scp_index_find(index: &[u8], used: usize, identifier: &[u8]) -> ScpPart
     ensures { result ≡ part_at (find_place index.now used identifier.now) }
 {
     part_of(index::find_place(index, used, identifier))
 }
 
 // The entry at a place of the index, which is not judged.
-#[unsafe(no_mangle)]
-pub extern "C" fn scp_index_step(index: &[u8], at: usize) -> IndexEntry
+pub fn scp_index_step(index: &[u8], at: usize) -> IndexEntry
     ensures { result ≡ entry_at index.now at }
 {
     index::step(index, at)
