@@ -173,10 +173,11 @@ library_sources() { ls -d crates.txt crates/*/src crates/*/specs crates/*/proofs
 
 needs_the_kit() { has_command rt || die "the library is to be proved, and the Rattle kit (rt) is not there"; }
 
-# Proves the library and writes its archive.
+# Proves the library and writes its archive, under the name that programs link.
 make_archive() {
     needs_the_kit
-    (cd "$top" && quietly archive.log rt staticlib scp)
+    (cd "$top/crates/scp_c" && quietly archive.log rt lib) || return
+    mkdir -p "${archive%/*}" && cp "$top/crates/scp_c/out/libscp_c.a" "$archive"
 }
 
 # The same if the archive is not there or the library's sources are newer.

@@ -1,7 +1,7 @@
 /*
  * scp.h: the C interface of libscp.a, the proved SCP-ECG library.
  *
- * Make the archive by `rt staticlib scp` (it is for x86-64), include this file, link target/staticlib/libscp.a.
+ * Make the archive by `scripts/archive` (it is for x86-64), include this file, link target/staticlib/libscp.a.
  * The library allocates nothing, keeps nothing between calls, does no input or output, and needs under 256 KiB of stack
  * a call.
  *

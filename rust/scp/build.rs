@@ -1,6 +1,6 @@
 //! Links the proved archive, `libscp.a`.
 //!
-//! It is in `target/staticlib` of the repository once `rt staticlib scp` has been run there. The environment
+//! It is in `target/staticlib` of the repository once `scripts/archive` has been run there. The environment
 //! variable `SCP_ARCHIVE_DIR` names another folder to take it from.
 
 use std::env;
@@ -16,7 +16,7 @@ fn main() {
     println!("cargo:rerun-if-changed={}", archive.display());
     if !archive.is_file() {
         eprintln!(
-            "there is no {ARCHIVE} in {}: run `rt staticlib scp` at the root of the repository, \
+            "there is no {ARCHIVE} in {}: run `scripts/archive` in the repository, \
              or set SCP_ARCHIVE_DIR to the folder that has it",
             folder.display()
         );
