@@ -26,7 +26,7 @@ returns-then-end_of-start_of-2 c = let a = c.args in
 
 pub returns : goal.returns
 unfolding sections_apart
-returns c = 
+returns c =
     let a = c.args in
     let r = a.rec.now in
     simp (

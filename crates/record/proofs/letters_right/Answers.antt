@@ -32,7 +32,7 @@ returns-then-byte-ne71 c = simp (differ {b = 71} c.byte-6.ensures.0 refl c.if-by
 
 pub returns : goal.returns
 unfolding letters_right
-returns c = 
+returns c =
     let c = c in
     simp (
       same {b = 83} c.byte.ensures.0 refl c.if-byte-ne83.false,

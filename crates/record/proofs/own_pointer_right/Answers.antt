@@ -16,7 +16,7 @@ returns-then-index_of-ne7 c = simp (differ c.index_of.ensures.0 refl c.if-index_
 
 pub returns : goal.returns
 unfolding own_pointer_right
-returns c = 
+returns c =
     simp (
       same c.length_of.ensures.0 c.number32.ensures.0 c.if-length_of-number32.false,
       same c.index_of.ensures.0 refl c.if-index_of-ne7.false,

@@ -11,17 +11,17 @@ returns-then-not-is_present c = simp (broken c.is_present.ensures c.if-not-is_pr
 
 pub returns-then-not-place_right : goal.returns-then-not-place_right
 unfolding placed_right
-returns-then-not-place_right c = 
+returns-then-not-place_right c =
     simp (kept c.is_present.ensures c.if-not-is_present.false, broken c.place_right.ensures c.if-not-place_right.true)
 
 pub returns-then-not-header_repeats : goal.returns-then-not-header_repeats
 unfolding placed_right
-returns-then-not-header_repeats c = 
+returns-then-not-header_repeats c =
     simp (kept c.is_present.ensures c.if-not-is_present.false, broken c.header_repeats.ensures c.if-not-header_repeats.true, and-false)
 
 pub returns : goal.returns
 unfolding placed_right
-returns c = 
+returns c =
     simp (
       kept c.is_present.ensures c.if-not-is_present.false,
       kept c.place_right.ensures c.if-not-place_right.false,

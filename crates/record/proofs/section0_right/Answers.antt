@@ -41,7 +41,7 @@ returns-then-not-own_pointer_right c = simp (broken c.own_pointer_right.ensures 
 
 pub returns : goal.returns
 unfolding section0_right
-returns c = 
+returns c =
     let c = c in
     let r = c.args.rec.now in
     simp (

@@ -11,7 +11,7 @@ returns-then-not-is_present c = simp (broken c.is_present.ensures c.if-not-is_pr
 
 pub returns : goal.returns
 unfolding section_check_right
-returns c = 
+returns c =
     let r = c.args.rec.now in
     simp (kept c.is_present.ensures c.if-not-is_present.false)
     (c.holds_check.ensures ∙ ap₂ (holds_check r) c.start_of.ensures.0 c.end_of.ensures.0)
