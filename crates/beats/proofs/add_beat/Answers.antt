@@ -16,7 +16,7 @@ loop-i-init c = let a = c.args in
     reached_none a.s.now a.beat.now a.first a.room.now c.qrs_count-zones.result c.qrs_count-zones.ensures.0
 
 pub zone_for-k-requires : goal.zone_for-k-requires
-zone_for-k-requires c = 
+zone_for-k-requires c =
     let few = (beat_right_lem (length c.args.beat.now) c.args.s.now c.requires.0).few in
     (omega arith, c.loop-i.invariant.zone)
 
@@ -24,7 +24,7 @@ pub slice_copy_out-raised : goal.slice_copy_out-raised
 slice_copy_out-raised c = omega (arith, c.loop-i.invariant.long)
 
 pub beat_by-requires : goal.beat_by-requires
-beat_by-requires c = 
+beat_by-requires c =
     let found = c.zone_for-k.ensures in
     (c.requires.0, c.qrs_count-zones.ensures.0, found.0, omega arith, found.2)
 
