@@ -1,8 +1,4 @@
-use Prim.Native.Nat.{◌-◌}
-use mathlib.Core.Path.{◌≡◌, refl}
 use native.Mathlib.Omega.{arith}
-use borrow.Author.Rules.{rules}
-use Rattle.wire.specs.RuleWords.{all_in}
 use Rattle.record.specs.RecordRules.{sections_apart}
 use Rattle.wire.proofs.Tests.{turn_kept, turn_broken, turns_done}
 use Rattle.record.proofs.all_apart.Goals as goal

@@ -1,7 +1,3 @@
-use Prim.Native.Nat.{◌-◌}
-use mathlib.Core.Path.{◌≡◌}
-use borrow.Author.Rules.{rules}
-use Rattle.wire.specs.RuleWords.{all_in}
 use Rattle.record.specs.RecordRules.{placed_right, all_placed_right}
 use Rattle.wire.proofs.Tests.{kept, broken, turn_kept, turn_broken, turns_done}
 use Rattle.record.proofs.all_placed_right.Goals as goal

@@ -2,7 +2,6 @@
 use Prim.Native.Nat.{ℕ, ◌+◌}
 use mathlib.Core.Path.{◌≡◌, ap, ◌∙◌}
 use mathlib.Core.Bool.{and-false}
-use borrow.Author.Rules.{rules}
 use Rattle.wire.specs.Numbers.{number_at}
 use Rattle.pointers.specs.Pointers.{start_of}
 use Rattle.record.specs.RecordRules.{header_repeats}

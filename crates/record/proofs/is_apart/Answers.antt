@@ -1,7 +1,6 @@
 -- The tests are the three cases of the rule; where none holds, it is broken.
 use mathlib.Core.Bool.{or-true}
 use native.Mathlib.Omega.{arith}
-use borrow.Author.Rules.{rules}
 use borrow.Author.Tests.{le-leb, lt-leb}
 use Rattle.pointers.specs.Pointers.{start_of, end_of}
 use Rattle.record.specs.RecordRules.{sections_apart}

@@ -1,7 +1,6 @@
 -- The tests are the rule's six letters, in its order.
 use mathlib.Core.Path.{refl}
 use mathlib.Core.Bool.{and-false}
-use borrow.Author.Rules.{rules}
 use Rattle.record.specs.RecordRules.{letters_right}
 use Rattle.wire.proofs.Tests.{same, differ}
 use Rattle.record.proofs.letters_right.Goals as goal

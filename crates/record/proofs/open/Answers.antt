@@ -3,7 +3,6 @@ use Prim.Native.Nat.{ℕ, ◌*◌}
 use mathlib.Core.Path.{sym, ap, ◌∙◌}
 use mathlib.Core.List.{◌++◌}
 use lib.ListN.{drop}
-use borrow.Author.Rules.{rules}
 use Rattle.pointers.specs.Pointers.{pointers_from}
 use Rattle.record.specs.Opening.{open_count, open_numbers}
 use Rattle.record.proofs.Laws.{opened, refused}

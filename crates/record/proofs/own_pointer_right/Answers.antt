@@ -1,7 +1,6 @@
 -- The tests are the rule's two parts, in its order.
 use mathlib.Core.Path.{refl}
 use mathlib.Core.Bool.{and-false}
-use borrow.Author.Rules.{rules}
 use Rattle.record.specs.RecordRules.{own_pointer_right}
 use Rattle.wire.proofs.Tests.{same, differ}
 use Rattle.record.proofs.own_pointer_right.Goals as goal

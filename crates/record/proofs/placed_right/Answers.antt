@@ -1,6 +1,5 @@
 -- The tests are the rule's parts, in its order, and the last call is its last part.
 use mathlib.Core.Bool.{and-false}
-use borrow.Author.Rules.{rules}
 use Rattle.record.specs.RecordRules.{placed_right}
 use Rattle.wire.proofs.Tests.{kept, broken}
 use Rattle.record.proofs.placed_right.Goals as goal
@@ -27,4 +26,4 @@ returns c =
       kept c.place_right.ensures c.if-not-place_right.false,
       kept c.header_repeats.ensures c.if-not-header_repeats.false,
     )
-    c.All-apart.ensures
+    c.all_apart.ensures

@@ -1,6 +1,5 @@
 -- An absent section keeps the rule; of another, the check is asked for from its own start up to its end.
 use mathlib.Core.Path.{ap₂, ◌∙◌}
-use borrow.Author.Rules.{rules}
 use Rattle.record.specs.RecordRules.{holds_check, section_check_right}
 use Rattle.wire.proofs.Tests.{kept, broken}
 use Rattle.record.proofs.section_check_right.Goals as goal

@@ -1,8 +1,3 @@
-use Prim.Native.Nat.{◌-◌}
-use mathlib.Core.Path.{◌≡◌}
-use borrow.Author.Rules.{rules}
-use Rattle.wire.specs.RuleWords.{all_in}
-use Rattle.pointers.specs.Pointers.{count_of}
 use Rattle.record.specs.RecordRules.{section_check_right}
 use Rattle.wire.proofs.Tests.{turn_kept, turn_broken, turns_done}
 use Rattle.record.proofs.section_checks_right.Goals as goal
