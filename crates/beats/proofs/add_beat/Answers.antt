@@ -47,7 +47,7 @@ turned c =
       some = c.loop-i-test.true;
       zone = found.0;
       alike = found.1;
-      own = c.raised.ensures.0 ∙ to_z-of_z w16 x (record { sfits = c.raised-arg-1.given });
+      own = c.raised.ensures.0 ∙ to_z-of_z w16 x (record { sfits = search rules });
       added = c.beat_by.ensures.0;
     }
 
@@ -67,7 +67,7 @@ pub bounds-room-i : goal.bounds-room-i
 bounds-room-i c = omega (arith, c.loop-i.invariant.long)
 
 pub loop-i-preserved : goal.loop-i-preserved
-loop-i-preserved c = let stored = to_z-of_z w16 c.lowered.result (record { sfits = c.lowered.type-inv }) ∙ c.lowered.ensures in
+loop-i-preserved c = let stored = to_z-of_z w16 c.lowered.result (record { sfits = c.lowered.type_inv }) ∙ c.lowered.ensures in
     turn_more (turned (goal.at.loop-i-preserved c).After-beat_by) _ c.if-y-lt32768.false c.if-y-ge98304.false stored
 
 pub shape_of-room : goal.shape_of-room

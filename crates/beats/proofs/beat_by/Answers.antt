@@ -70,5 +70,5 @@ returns c =
     let in-it = place_in (length beat) s a.zones a.k a.n c.requires.0 c.requires.1 h z.1 (omega arith) z.2 in
     let x = get_or beat (place - 1) (pos 0) in
     let told = c.raised.ensures in
-    let own = told.0 ∙ to_z-of_z w16 x (record { sfits = c.raised-arg-1.given }) in
+    let own = told.0 ∙ to_z-of_z w16 x (record { sfits = search rules }) in
     (rw (in-it, e, beat_at beat place (omega (arith, z))) own, told.1)
