@@ -1,6 +1,6 @@
 -- Streams compared: what is added at either end, and the order of more than two. Assumes nothing.
 use Prim.Native.Nat.{ℕ, ◌≤◌}
-use mathlib.Core.Path.{◌≡◌, sym}
+use mathlib.Core.Path.{◌≡◌, refl, sym}
 use mathlib.Core.List.{List, [], ◌∷◌, ◌++◌}
 use mathlib.Core.Logic.{◌⊎◌, ⊎_elim}
 use native.Mathlib.Omega.{arith}
@@ -24,11 +24,14 @@ before_trans (here h) (there k) = here h
 before_trans (there h) (here k) = here k
 before_trans (there h) (there k) = there (before_trans h k)
 
+before_asym_at : {a b c d : List ℕ} → Before a b → Before c d → b ≡ c → a ≡ d → ⊥
+before_asym_at (here {x = x} {y = y} h) (here {x = x'} {y = y'} k) e f = let p : y ≡ x' = cc in let q : x ≡ y' = cc in omega arith
+before_asym_at (here {x = x} {y = y} h) (there {x = x'} k) e f = let p : y ≡ x' = cc in let q : x ≡ x' = cc in omega arith
+before_asym_at (there {x = x} h) (here {x = x'} {y = y'} k) e f = let p : x ≡ x' = cc in let q : x ≡ y' = cc in omega arith
+before_asym_at (there {a = a} {b = b} h) (there {a = a'} {b = b'} k) e f = let p : b ≡ a' = cc in let q : a ≡ b' = cc in before_asym_at h k p q
+
 pub before_asym : {a b : List ℕ} → Before a b → Before b a → ⊥
-before_asym (here h) (here k) = omega arith
-before_asym (here h) (there k) = omega arith
-before_asym (there h) (here k) = omega arith
-before_asym (there h) (there k) = before_asym h k
+before_asym h k = before_asym_at h k refl refl
 
 -- of two that are each no longer than the other, and each the other or the smaller of equally long ones, there is one only
 pub compared_unique : (a b : List ℕ) → length a ≤ length b → length b ≤ length a → (length b ≡ length a → (a ≡ b) ⊎ Before a b)

@@ -1,6 +1,6 @@
 -- Section 2's data and refusal 7 (01, Code tables; 01, Numbers that bound the work; 01, Refusal numbers). The data start at a place of
 -- s: at 16 behind a section's header, at 0 where they are given alone.
-use Rattle.std.specs.Prelude.{ℕ, zero, suc, ◌+◌, ◌*◌, Bool, true, ◌&&◌, cond, List, [], ◌∷◌, leb, eqb, length, get_or}
+use Rattle.std.specs.Prelude.{ℕ, zero, suc, ◌+◌, ◌*◌, Bool, ◌&&◌, cond, List, [], ◌∷◌, leb, eqb, length, get_or}
 use Rattle.wire.specs.Bounds.{most_tables, most_structures}
 use Rattle.wire.specs.Numbers.{number_at}
 use Rattle.wire.specs.RuleWords.{every, ends_by}

@@ -16,7 +16,7 @@ loop-i-init c = let a = c.args in
     reached_none a.s.now a.beat.now a.first a.room.now c.qrs_count-zones.result c.qrs_count-zones.ensures.0
 
 pub zone_for-k-requires : goal.zone_for-k-requires
-zone_for-k-requires c = 
+zone_for-k-requires c =
     let few = (beat_right_lem (length c.args.beat.now) c.args.s.now c.requires.0).few in
     (omega arith, c.loop-i.invariant.zone)
 
@@ -24,7 +24,7 @@ pub slice_copy_out-raised : goal.slice_copy_out-raised
 slice_copy_out-raised c = omega (arith, c.loop-i.invariant.long)
 
 pub beat_by-requires : goal.beat_by-requires
-beat_by-requires c = 
+beat_by-requires c =
     let found = c.zone_for-k.ensures in
     (c.requires.0, c.qrs_count-zones.ensures.0, found.0, omega arith, found.2)
 
@@ -47,7 +47,7 @@ turned c =
       some = c.loop-i-test.true;
       zone = found.0;
       alike = found.1;
-      own = c.raised.ensures.0 ∙ to_z-of_z w16 x (record { sfits = c.raised-arg-1.given });
+      own = c.raised.ensures.0 ∙ to_z-of_z w16 x (record { sfits = search rules });
       added = c.beat_by.ensures.0;
     }
 
@@ -67,7 +67,7 @@ pub bounds-room-i : goal.bounds-room-i
 bounds-room-i c = omega (arith, c.loop-i.invariant.long)
 
 pub loop-i-preserved : goal.loop-i-preserved
-loop-i-preserved c = let stored = to_z-of_z w16 c.lowered.result (record { sfits = c.lowered.type-inv }) ∙ c.lowered.ensures in
+loop-i-preserved c = let stored = to_z-of_z w16 c.lowered.result (record { sfits = c.lowered.type_inv }) ∙ c.lowered.ensures in
     turn_more (turned (goal.at.loop-i-preserved c).After-beat_by) _ c.if-y-lt32768.false c.if-y-ge98304.false stored
 
 pub shape_of-room : goal.shape_of-room

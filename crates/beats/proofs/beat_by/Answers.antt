@@ -20,12 +20,12 @@ returns-then-k-zones c = let a = c.args in
     (rw (place_end a.s.now a.zones a.k a.n (omega arith)), omega arith)
 
 pub zone_begin-requires : goal.zone_begin-requires
-zone_begin-requires c = 
+zone_begin-requires c =
     omega (arith, (beat_right_lem (length c.args.beat.now) c.args.s.now c.requires.0).few)
 
 pub returns-then-n-zone_begin : goal.returns-then-n-zone_begin
 unfolding from_zero beat_value_at
-returns-then-n-zone_begin c = 
+returns-then-n-zone_begin c =
     let a = c.args in
     let h : a.k < a.zones = omega arith in
     let none =
@@ -33,7 +33,7 @@ returns-then-n-zone_begin c =
     (rw none, omega arith)
 
 pub zone_fiducial-requires : goal.zone_fiducial-requires
-zone_fiducial-requires c = 
+zone_fiducial-requires c =
     omega (arith, (beat_right_lem (length c.args.beat.now) c.args.s.now c.requires.0).few)
 
 -- the sample lies in zone k, which keeps its rule
@@ -59,7 +59,7 @@ pub bounds-beat-place : goal.bounds-beat-place
 bounds-beat-place c = omega (arith, here c)
 
 pub returns : goal.returns
-returns c = 
+returns c =
     let a = c.args in
     let s = a.s.now in
     let beat = a.beat.now in
@@ -70,5 +70,5 @@ returns c =
     let in-it = place_in (length beat) s a.zones a.k a.n c.requires.0 c.requires.1 h z.1 (omega arith) z.2 in
     let x = get_or beat (place - 1) (pos 0) in
     let told = c.raised.ensures in
-    let own = told.0 ∙ to_z-of_z w16 x (record { sfits = c.raised-arg-1.given }) in
+    let own = told.0 ∙ to_z-of_z w16 x (record { sfits = search rules }) in
     (rw (in-it, e, beat_at beat place (omega (arith, z))) own, told.1)

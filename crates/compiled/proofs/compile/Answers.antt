@@ -16,7 +16,7 @@ pub put_guesses-requires : goal.put_guesses-requires
 put_guesses-requires c = (c.loop-t.invariant.1.room, omega arith)
 
 pub loop-t-preserved : goal.loop-t-preserved
-loop-t-preserved c = 
+loop-t-preserved c =
     let l = c.loop-t in
     let room = c.put_guesses.auto.tab ∙ l.invariant.1.room in
     (omega arith, ready_same _ l.tab c.put_guesses.new.tab room c.put_guesses.ensures l.invariant.1)

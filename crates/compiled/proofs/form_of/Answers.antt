@@ -10,5 +10,5 @@ returns-then-c-eq0 c = rw (c.turn-word.ensures.0, eq-eqb _ 0 c.if-c-eq0.true)
 
 pub returns : goal.returns
 unfolding form_of
-returns c = 
+returns c =
     rw (c.turn-word.ensures.0, c.lowest_of.ensures, c.beyond_of.ensures, ne_eqb _ 0 c.if-c-eq0.false)

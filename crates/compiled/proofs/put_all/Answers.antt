@@ -15,7 +15,7 @@ use Rattle.compiled.proofs.put_all.Goals.{After-number16-n}
 
 pub returns-then-is_default : goal.returns-then-is_default
 unfolding tables_in every
-returns-then-is_default c = 
+returns-then-is_default c =
     let c = c in
     rw (sym c.is_default.ensures ∙ c.if-is_default.true)
     (ready (default_table ∷ []) 1 c.put_default.new.tab c.put_none.new.tab refl (omega arith) (omega arith) (rw default_right)
@@ -33,18 +33,18 @@ own c =
     own_tables a.spare a.s.now a.at c.requires.2 (sym c.is_default.ensures ∙ c.if-is_default.false)
 
 pub put_tables-requires : goal.put_tables-requires
-put_tables-requires c = 
+put_tables-requires c =
     let r = own (goal.at.put_tables-requires c).After-number16-n in
-    record { tab_len = (c.requires.0, omega (arith, r.most), omega arith); n_value = rw c.number16-n.ensures.0 r.right; }
+    record { tab_len = (c.requires.0, omega (arith, r.most), omega arith); n_value = rw c.number16-n.ensures.0 r.right }
 
 pub put_none-requires-2 : goal.put_none-requires-2
-put_none-requires-2 c = 
+put_none-requires-2 c =
     let r = own (goal.at.put_none-requires-2 c).After-number16-n in
     (c.put_tables.auto.tab ∙ c.requires.0, omega (arith, r.most, c.number16-n.ensures.0))
 
 pub returns : goal.returns
 unfolding tables_in
-returns c = 
+returns c =
     let c = c in
     let a = c.args in
     let n = c.number16-n.result in

@@ -47,10 +47,11 @@ form_of-requires c = let f = fine 1 c.default_structure.result (right c) in
 
 pub put_form-requires : goal.put_form-requires
 put_form-requires c = let fit = form_fine 1 c.default_structure.result (omega arith) (right (goal.at.put_form-requires c).After-default_structure) in
-    ((c.loop-k.invariant.1.room, omega arith, omega arith), form_room (rw c.form_of.ensures fit))
+    let room = form_room {f = c.form_of.result} (rw c.form_of.ensures fit) in
+    record { tab_len = (c.loop-k.invariant.1.room, omega arith, omega arith); prefix_bound = room.0; lo_bound = room.1 }
 
 pub loop-k-preserved : goal.loop-k-preserved
-loop-k-preserved c = 
+loop-k-preserved c =
     let c = c in
     let l = c.loop-k in (
       omega arith,

@@ -22,11 +22,11 @@ loop-b-init c = (omega arith, omega (arith, most (goal.at.loop-b-init c).After-p
 
 pub loop-b-preserved : goal.loop-b-preserved
 loop-b-preserved c = let l = c.loop-b in (
-      omega arith,
-      omega arith,
-      length-set l.tab _ _ ∙ l.invariant.2,
-      λ i h. get_or-set_other l.tab _ i _ 0 (λ e. omega arith) ∙ l.invariant.3 i h,
-    )
+  omega arith,
+  omega arith,
+  length-set l.tab _ _ ∙ l.invariant.2,
+  λ i h. get_or-set_other l.tab _ i _ 0 (λ e. omega arith) ∙ l.invariant.3 i h,
+)
 
 pub returns : goal.returns
 returns c = c.loop-b.invariant.3

@@ -15,7 +15,7 @@ pub loop-k-init : goal.loop-k-init
 loop-k-init c = (omega arith, omega arith, λ i h. refl)
 
 pub loop-k-preserved : goal.loop-k-preserved
-loop-k-preserved c = 
+loop-k-preserved c =
     let l = c.loop-k in
     (omega arith, c.put_guess.auto.tab ∙ l.invariant.1, λ i h. c.put_guess.ensures i h ∙ l.invariant.2 i h)
 

@@ -16,11 +16,11 @@ use Rattle.compiled.proofs.put_table.Goals.{After-structure_at}
 
 pub loop-k-init : goal.loop-k-init
 loop-k-init c = let a = c.args in (
-      omega arith,
-      omega arith,
-      upto_start (structures_at a.s.now a.o a.n) a.tab.now a.t a.n (omega arith) (omega arith)
-          (sym (length_structures_at a.s.now a.o a.n)),
-    )
+  omega arith,
+  omega arith,
+  upto_start (structures_at a.s.now a.o a.n) a.tab.now a.t a.n (omega arith) (omega arith)
+      (sym (length_structures_at a.s.now a.o a.n)),
+)
 
 -- the structure that a turn reads is the next of the table
 next : (c : After-structure_at) →
@@ -62,10 +62,11 @@ form_of-requires c = let a = c.args in
 pub put_form-requires : goal.put_form-requires
 put_form-requires c = let tables = c.args.tables in
     let fit = form_fine tables c.structure_at.result (omega arith) (right (goal.at.put_form-requires c).After-structure_at) in
-    ((c.loop-k.invariant.2.room, omega arith, omega arith), form_room (rw c.form_of.ensures fit))
+    let room = form_room {f = c.form_of.result} (rw c.form_of.ensures fit) in
+    record { tab_len = (c.loop-k.invariant.2.room, omega arith, omega arith); prefix_bound = room.0; lo_bound = room.1 }
 
 pub loop-k-preserved : goal.loop-k-preserved
-loop-k-preserved c = 
+loop-k-preserved c =
     let c = c in
     let l = c.loop-k in (
       omega arith,

@@ -43,17 +43,17 @@ right c =
 
 pub put_table-requires : goal.put_table-requires
 unfolding table_at
-put_table-requires c = 
+put_table-requires c =
     let a = c.args in
     let l = c.loop-t in
     let r = table_right_lem a.n (table_at a.s.now l.from) (right (goal.at.put_table-requires c).In-loop-t) in
     let n = c.number16.ensures.0 in
     let most = rw (length_structures_at a.s.now (l.from + 2) (number_at 2 a.s.now l.from)) at r.most in
-    record { tab_len = (l.invariant.2, omega arith, omega arith, omega arith, omega arith); n_value = rw n r.right; }
+    record { tab_len = (l.invariant.2, omega arith, omega arith, omega arith, omega arith); n_value = rw n r.right }
 
 pub loop-t-preserved : goal.loop-t-preserved
 unfolding table_at
-loop-t-preserved c = 
+loop-t-preserved c =
     let c = c in
     let a = c.args in
     let l = c.loop-t in

@@ -1,7 +1,3 @@
-use Prim.Native.Nat.{◌-◌}
-use mathlib.Core.Path.{◌≡◌, refl}
-use borrow.Author.Rules.{rules}
-use Rattle.wire.specs.RuleWords.{all_in}
 use Rattle.entries.specs.Section3.{lead_right}
 use Rattle.wire.proofs.Tests.{turn_kept, turn_broken, turns_done}
 use Rattle.entries.proofs.all_leads_right.Goals as goal

@@ -1,10 +1,8 @@
 -- At every turn the leads still to come decide as all of them do; a wrong one decides, and after the last none is left to.
 use Prim.Native.Nat.{◌-◌}
-use mathlib.Core.Path.{◌≡◌, refl}
-use borrow.Author.Rules.{rules}
+use mathlib.Core.Path.{◌≡◌}
 use Rattle.wire.specs.RuleWords.{all_in}
 use Rattle.entries.specs.Section3.{lead_right}
-use Rattle.wire.proofs.Tests.{turn_kept, turn_broken, turns_done}
 use Rattle.entries.proofs.all_leads_right.Given as goal
 
 abbrev pub invariant-loop-k : goal.invariant-loop-k

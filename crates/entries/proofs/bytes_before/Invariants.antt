@@ -1,9 +1,6 @@
 -- At every turn the sum is that of the streams before the turn's, so after the last turn it is that of all before lead k.
 use Prim.Native.Nat.{◌-◌, ◌*◌, ◌≤◌}
-use mathlib.Core.Path.{◌≡◌, ap, ◌∙◌}
-use native.Mathlib.Numerals.{add-one}
-use native.Mathlib.Omega.{arith}
-use borrow.Author.Rules.{rules}
+use mathlib.Core.Path.{◌≡◌}
 use Rattle.entries.specs.Sections5And6.{bytes_before}
 use Rattle.entries.proofs.bytes_before.Given as goal
 

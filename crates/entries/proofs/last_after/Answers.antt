@@ -1,7 +1,6 @@
 -- The tests are the definition's cases at the next zone.
 use mathlib.Core.Path.{refl}
 use native.Mathlib.Numerals.{add-one}
-use borrow.Author.Rules.{rules}
 use Rattle.entries.specs.Section4.{last_before}
 use Rattle.wire.proofs.Tests.{same, differ}
 use Rattle.entries.proofs.last_after.Goals as goal

@@ -1,7 +1,6 @@
 -- The tests are the rule's three parts, in its order.
 use mathlib.Core.Bool.{and-false}
 use native.Mathlib.Omega.{arith}
-use borrow.Author.Rules.{rules}
 use borrow.Author.Tests.{le-leb, lt-leb}
 use Rattle.entries.specs.Section3.{first_sample, last_sample, sample_count, lead_right}
 use Rattle.entries.proofs.lead_right.Goals as goal

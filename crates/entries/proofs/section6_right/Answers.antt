@@ -1,6 +1,5 @@
 -- The test is of bimodal, and the last call is the rest of the rule.
 use native.Mathlib.Omega.{arith}
-use borrow.Author.Rules.{rules}
 use borrow.Author.Tests.{le-leb, lt-leb}
 use Rattle.entries.specs.Sections5And6.{bimodal_of, section6_right}
 use Rattle.entries.proofs.section6_right.Goals as goal

@@ -3,7 +3,6 @@ use Prim.Native.Nat.{◌+◌, ◌-◌}
 use mathlib.Core.Path.{◌≡◌, ap}
 use native.Mathlib.Omega.{arith}
 use lib.ListN.{length, drop, length-take}
-use borrow.Author.Rules.{rules}
 use Rattle.wire.specs.Numbers.{part}
 use Rattle.entries.specs.Sections5And6.{stream_of}
 use Rattle.entries.proofs.stream_of.Goals as goal

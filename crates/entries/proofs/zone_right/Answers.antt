@@ -4,7 +4,6 @@ use mathlib.Core.Path.{refl, ap}
 use mathlib.Core.Bool.{and-false}
 use native.Mathlib.Omega.{arith}
 use lib.Dec.{eqb}
-use borrow.Author.Rules.{rules}
 use borrow.Author.Tests.{le-leb, lt-leb, lt-ltb, le-ltb}
 use Rattle.entries.specs.Section4.{fiducial_of, zone_begin, qrs_fiducial, zone_end, last_before, zone_right}
 use Rattle.wire.proofs.Tests.{same, differ}

@@ -1,7 +1,4 @@
-use Prim.Native.Nat.{◌-◌}
-use mathlib.Core.Path.{◌≡◌, refl}
-use borrow.Author.Rules.{rules}
-use Rattle.wire.specs.RuleWords.{all_in}
+use mathlib.Core.Path.{refl}
 use Rattle.entries.specs.Section4.{last_before, zone_right}
 use Rattle.wire.proofs.Tests.{turn_kept, turn_broken, turns_done}
 use Rattle.entries.proofs.zones_right.Goals as goal

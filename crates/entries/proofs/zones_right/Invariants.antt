@@ -1,10 +1,8 @@
 -- At every turn the last sample so far is at hand and the zones still to come decide; a wrong one decides at once.
 use Prim.Native.Nat.{◌-◌}
-use mathlib.Core.Path.{◌≡◌, refl}
-use borrow.Author.Rules.{rules}
+use mathlib.Core.Path.{◌≡◌}
 use Rattle.wire.specs.RuleWords.{all_in}
 use Rattle.entries.specs.Section4.{last_before, zone_right}
-use Rattle.wire.proofs.Tests.{turn_kept, turn_broken, turns_done}
 use Rattle.entries.proofs.zones_right.Given as goal
 
 abbrev pub invariant-loop-k : goal.invariant-loop-k

@@ -1,8 +1,6 @@
 use mathlib.Core.Path.{◌≡◌, refl, sym, ap, ◌∙◌}
-use Prim.Native.Nat.{◌≤◌}
 use native.Mathlib.Omega.{arith}
-use borrow.Author.Rules.{rules}
-use Rattle.header.specs.Fields.{fields_from, with_tag, occurring}
+use Rattle.header.specs.Fields.{occurring}
 use Rattle.header.proofs.Laws.{first_none, first_found, occurring_none, occurring_later}
 use Rattle.header.proofs.find.Goals as goal
 
@@ -15,12 +13,12 @@ loop-left-init c = (omega (arith, c.if-occurrence-eq0.false), refl)
 
 pub loop-left-preserved : goal.loop-left-preserved
 loop-left-preserved c = let l = c.loop-left in
-    let found = sym c.next_named.ensures ∙ c.f-1.given.1 in
+    let found = sym c.in-Found.ensures in
     (omega arith, sym (ap (occurring l.left) (first_found _ _ _ _ found) ∙ occurring_later l.left _ _ (omega arith)) ∙ l.invariant.1)
 
 pub returns-in-End : goal.returns-in-End
 returns-in-End c = let l = c.loop-left in
-    let ended = sym c.next_named.ensures ∙ c.enum_told-1.given.1 in
+    let ended = sym c.in-End.ensures in
     sym (ap (occurring l.left) (first_none _ ended) ∙ occurring_none l.left) ∙ l.invariant.1
 
 pub returns : goal.returns

@@ -1,11 +1,8 @@
 -- At every turn the occurrence that is left to seek, from the place that is reached, is the one that was asked for: each first field
 -- with the tag that is found counts for one. After the last turn the first is it.
-use mathlib.Core.Path.{◌≡◌, refl, sym, ap, ◌∙◌}
+use mathlib.Core.Path.{◌≡◌}
 use Prim.Native.Nat.{◌≤◌}
-use native.Mathlib.Omega.{arith}
-use borrow.Author.Rules.{rules}
 use Rattle.header.specs.Fields.{fields_from, with_tag, occurring}
-use Rattle.header.proofs.Laws.{first_none, first_found, occurring_none, occurring_later}
 use Rattle.header.proofs.find.Given as goal
 
 abbrev pub invariant-loop-left : goal.invariant-loop-left

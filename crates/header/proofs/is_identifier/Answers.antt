@@ -1,7 +1,6 @@
 -- The tests are those of the definition, in its order, and the call answers for the bytes before the last.
 use mathlib.Core.Path.{sym}
 use native.Mathlib.Omega.{arith}
-use borrow.Author.Rules.{rules}
 use borrow.Author.Tests.{le-leb, lt-leb, eq-eqb, ne_eqb}
 use Rattle.header.specs.Fields.{size_of}
 use Rattle.header.specs.Header.{is_identifier}

@@ -4,17 +4,14 @@ use mathlib.Core.List.{List}
 use Prim.Native.Nat.{ℕ, ◌-◌, ◌≤◌, ◌<◌}
 use native.Mathlib.Decide.{dec_le}
 use native.Mathlib.Omega.{arith}
-use lib.Dec.{leb, eqb}
+use lib.Dec.{leb}
 use lib.ListN.{length, get_or-eq_default}
-use borrow.Author.Rules.{rules}
 use borrow.Author.Tests.{le-leb, lt-leb, eq-eqb, ne_eqb}
 use Rattle.wire.specs.Numbers.{byte_at}
 use Rattle.wire.specs.RuleWords.{all_in}
 use Rattle.wire.proofs.Laws.{all_end, all_step, all_miss, all_at}
+use Rattle.header.proofs.Free.{no_nul}
 use Rattle.header.proofs.no_nul.Goals as goal
-
-abbrev no_nul : List ℕ → ℕ → Bool
-no_nul s i = not (eqb (byte_at s i) 0)
 
 -- where the last byte is not there, none but no bytes are free of NUL
 missing : (s : List ℕ) (from to : ℕ) → length s < to → leb to from ≡ all_in from to (no_nul s)

@@ -1,6 +1,5 @@
 -- Each call answers for one part of the rule, in the rule's order: the first that fails decides, and the last decides where none does.
 use mathlib.Core.Path.{sym}
-use borrow.Author.Rules.{rules}
 use Rattle.wire.proofs.Tests.{kept, broken}
 use Rattle.header.specs.Header.{tags_right, section1_right}
 use Rattle.header.proofs.section1_right.Goals as goal

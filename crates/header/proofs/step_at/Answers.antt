@@ -4,7 +4,6 @@ use mathlib.Core.Path.{sym}
 use Prim.Native.Nat.{◌+◌}
 use native.Mathlib.Omega.{arith}
 use lib.ListN.{length}
-use borrow.Author.Rules.{rules}
 use borrow.Author.Tests.{le-leb, eq-eqb, ne_eqb}
 use Rattle.wire.specs.Numbers.{number_at}
 use Rattle.header.specs.Fields.{is_field, field_at, step_at}

@@ -1,11 +1,8 @@
 -- At every turn the sections still to come decide as all of them do; one that overlaps decides, and after the last none is left to.
 use Prim.Native.Nat.{◌-◌}
-use mathlib.Core.Path.{◌≡◌, refl}
-use native.Mathlib.Omega.{arith}
-use borrow.Author.Rules.{rules}
+use mathlib.Core.Path.{◌≡◌}
 use Rattle.wire.specs.RuleWords.{all_in}
 use Rattle.record.specs.RecordRules.{sections_apart}
-use Rattle.wire.proofs.Tests.{turn_kept, turn_broken, turns_done}
 use Rattle.record.proofs.all_apart.Given as goal
 
 abbrev pub invariant-loop-j : goal.invariant-loop-j

@@ -1,7 +1,3 @@
-use Prim.Native.Nat.{◌-◌}
-use mathlib.Core.Path.{◌≡◌}
-use borrow.Author.Rules.{rules}
-use Rattle.wire.specs.RuleWords.{all_in}
 use Rattle.record.specs.RecordRules.{placed_right, all_placed_right}
 use Rattle.wire.proofs.Tests.{kept, broken, turn_kept, turn_broken, turns_done}
 use Rattle.record.proofs.all_placed_right.Goals as goal
@@ -15,18 +11,18 @@ unfolding all_placed_right
 loop-k-init c = simp (c.count_of-count.ensures.0, kept c.is_present.ensures c.if-not-is_present.false)
 
 pub returns-then-not-placed_right : goal.returns-then-not-placed_right
-returns-then-not-placed_right c = 
+returns-then-not-placed_right c =
     let a = c.args in
     turn_broken (placed_right a.rec.now) c.loop-k.k c.count_of-count.result c.loop-k.invariant
     c.loop-k-test.true c.placed_right.ensures c.if-not-placed_right.true
 
 pub loop-k-preserved : goal.loop-k-preserved
-loop-k-preserved c = 
+loop-k-preserved c =
     let a = c.args in
     turn_kept (placed_right a.rec.now) c.loop-k.k c.count_of-count.result c.loop-k.invariant
     c.loop-k-test.true c.placed_right.ensures c.if-not-placed_right.false
 
 pub returns : goal.returns
-returns c = 
+returns c =
     let a = c.args in
     turns_done (placed_right a.rec.now) c.loop-k.k c.count_of-count.result c.loop-k.invariant c.loop-k-test.false

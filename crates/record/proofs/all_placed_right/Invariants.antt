@@ -1,10 +1,8 @@
 -- With Section 1 present, at every turn the sections still to come decide; one that is wrong decides, and after the last none is left to.
 use Prim.Native.Nat.{◌-◌}
 use mathlib.Core.Path.{◌≡◌}
-use borrow.Author.Rules.{rules}
 use Rattle.wire.specs.RuleWords.{all_in}
 use Rattle.record.specs.RecordRules.{placed_right, all_placed_right}
-use Rattle.wire.proofs.Tests.{kept, broken, turn_kept, turn_broken, turns_done}
 use Rattle.record.proofs.all_placed_right.Given as goal
 
 abbrev pub invariant-loop-k : goal.invariant-loop-k

@@ -1,7 +1,6 @@
 -- Section 0's check is asked for first, from byte 7 on as far as its length says; the other sections' decide then.
 use Prim.Native.Nat.{ℕ, ◌+◌}
 use mathlib.Core.Path.{◌≡◌, ap, ◌∙◌}
-use borrow.Author.Rules.{rules}
 use Rattle.pointers.specs.Pointers.{section0_length}
 use Rattle.record.specs.RecordRules.{holds_check, checks_right}
 use Rattle.wire.proofs.Tests.{kept, broken}

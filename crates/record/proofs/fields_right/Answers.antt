@@ -2,7 +2,6 @@
 use Prim.Native.Nat.{ℕ}
 use mathlib.Core.Path.{ap, ◌∙◌}
 use mathlib.Core.List.{List}
-use borrow.Author.Rules.{rules}
 use Rattle.header.specs.Header.{section1_right}
 use Rattle.record.specs.RecordRules.{fields_right}
 use Rattle.record.proofs.fields_right.Goals as goal

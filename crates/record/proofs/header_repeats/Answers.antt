@@ -2,7 +2,6 @@
 use Prim.Native.Nat.{ℕ, ◌+◌}
 use mathlib.Core.Path.{◌≡◌, ap, ◌∙◌}
 use mathlib.Core.Bool.{and-false}
-use borrow.Author.Rules.{rules}
 use Rattle.wire.specs.Numbers.{number_at}
 use Rattle.pointers.specs.Pointers.{start_of}
 use Rattle.record.specs.RecordRules.{header_repeats}
@@ -35,7 +34,7 @@ returns-then-number32-length_of c = simp (differ (size_found_lem (goal.at.return
 
 pub returns : goal.returns
 unfolding header_repeats
-returns c = 
+returns c =
     simp (
       same (id_found (goal.at.returns c).After-number16) c.id_of.ensures.0 c.if-number16-id_of.false,
       same (size_found_lem (goal.at.returns c).After-number32) c.length_of.ensures.0 c.if-number32-length_of.false,

@@ -1,7 +1,6 @@
 -- The number at the start is compared with the check of the part behind it, up to the end.
 use Prim.Native.Nat.{◌+◌}
 use mathlib.Core.Path.{◌≡◌, ap, ◌∙◌}
-use borrow.Author.Rules.{rules}
 use Rattle.wire.specs.Numbers.{part}
 use Rattle.wire.specs.Check.{crc_of}
 use Rattle.record.specs.RecordRules.{holds_check}

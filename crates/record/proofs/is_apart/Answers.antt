@@ -1,7 +1,6 @@
 -- The tests are the three cases of the rule; where none holds, it is broken.
 use mathlib.Core.Bool.{or-true}
 use native.Mathlib.Omega.{arith}
-use borrow.Author.Rules.{rules}
 use borrow.Author.Tests.{le-leb, lt-leb}
 use Rattle.pointers.specs.Pointers.{start_of, end_of}
 use Rattle.record.specs.RecordRules.{sections_apart}
@@ -26,7 +25,7 @@ returns-then-end_of-start_of-2 c = let a = c.args in
 
 pub returns : goal.returns
 unfolding sections_apart
-returns c = 
+returns c =
     let a = c.args in
     let r = a.rec.now in
     simp (

@@ -1,7 +1,6 @@
 -- The tests are the rule's six letters, in its order.
 use mathlib.Core.Path.{refl}
 use mathlib.Core.Bool.{and-false}
-use borrow.Author.Rules.{rules}
 use Rattle.record.specs.RecordRules.{letters_right}
 use Rattle.wire.proofs.Tests.{same, differ}
 use Rattle.record.proofs.letters_right.Goals as goal
@@ -32,7 +31,7 @@ returns-then-byte-ne71 c = simp (differ {b = 71} c.byte-6.ensures.0 refl c.if-by
 
 pub returns : goal.returns
 unfolding letters_right
-returns c = 
+returns c =
     let c = c in
     simp (
       same {b = 83} c.byte.ensures.0 refl c.if-byte-ne83.false,

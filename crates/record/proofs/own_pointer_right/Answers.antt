@@ -1,7 +1,6 @@
 -- The tests are the rule's two parts, in its order.
 use mathlib.Core.Path.{refl}
 use mathlib.Core.Bool.{and-false}
-use borrow.Author.Rules.{rules}
 use Rattle.record.specs.RecordRules.{own_pointer_right}
 use Rattle.wire.proofs.Tests.{same, differ}
 use Rattle.record.proofs.own_pointer_right.Goals as goal
@@ -16,7 +15,7 @@ returns-then-index_of-ne7 c = simp (differ c.index_of.ensures.0 refl c.if-index_
 
 pub returns : goal.returns
 unfolding own_pointer_right
-returns c = 
+returns c =
     simp (
       same c.length_of.ensures.0 c.number32.ensures.0 c.if-length_of-number32.false,
       same c.index_of.ensures.0 refl c.if-index_of-ne7.false,

@@ -1,5 +1,4 @@
 -- The part whose check is asked for is the whole record.
-use borrow.Author.Rules.{rules}
 use Rattle.record.specs.RecordRules.{record_check_right}
 use Rattle.record.proofs.record_check_right.Goals as goal
 

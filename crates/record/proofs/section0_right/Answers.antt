@@ -4,7 +4,6 @@ use mathlib.Core.Path.{refl, ap, ◌∙◌}
 use mathlib.Core.Bool.{and-false}
 use native.Mathlib.Omega.{arith}
 use lib.ListN.{length}
-use borrow.Author.Rules.{rules}
 use borrow.Author.Tests.{eq-eqb, ne_eqb, le-leb, lt-leb}
 use Rattle.wire.specs.RuleWords.{all_in}
 use Rattle.pointers.specs.Pointers.{count_of, section0_length}
@@ -41,7 +40,7 @@ returns-then-not-own_pointer_right c = simp (broken c.own_pointer_right.ensures 
 
 pub returns : goal.returns
 unfolding section0_right
-returns c = 
+returns c =
     let c = c in
     let r = c.args.rec.now in
     simp (

@@ -1,6 +1,5 @@
 -- An absent section keeps the rule; of another, the check is asked for from its own start up to its end.
 use mathlib.Core.Path.{ap₂, ◌∙◌}
-use borrow.Author.Rules.{rules}
 use Rattle.record.specs.RecordRules.{holds_check, section_check_right}
 use Rattle.wire.proofs.Tests.{kept, broken}
 use Rattle.record.proofs.section_check_right.Goals as goal
@@ -11,7 +10,7 @@ returns-then-not-is_present c = simp (broken c.is_present.ensures c.if-not-is_pr
 
 pub returns : goal.returns
 unfolding section_check_right
-returns c = 
+returns c =
     let r = c.args.rec.now in
     simp (kept c.is_present.ensures c.if-not-is_present.false)
     (c.holds_check.ensures ∙ ap₂ (holds_check r) c.start_of.ensures.0 c.end_of.ensures.0)

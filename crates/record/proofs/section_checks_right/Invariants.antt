@@ -1,11 +1,9 @@
 -- At every turn the checks still to come decide as all of them do; a wrong one decides, and after the last none is left to.
 use Prim.Native.Nat.{◌-◌}
 use mathlib.Core.Path.{◌≡◌}
-use borrow.Author.Rules.{rules}
 use Rattle.wire.specs.RuleWords.{all_in}
 use Rattle.pointers.specs.Pointers.{count_of}
 use Rattle.record.specs.RecordRules.{section_check_right}
-use Rattle.wire.proofs.Tests.{turn_kept, turn_broken, turns_done}
 use Rattle.record.proofs.section_checks_right.Given as goal
 
 abbrev pub invariant-loop-k : goal.invariant-loop-k

@@ -1,10 +1,7 @@
 -- At every turn the place after what is left of the tables is the place after all; a table takes at most 589,817 bytes.
-use mathlib.Core.Path.{◌≡◌, refl, sym, ap, ◌∙◌}
-use Prim.Native.Nat.{ℕ, ◌+◌, ◌-◌, ◌*◌, ◌≤◌}
-use native.Mathlib.Omega.{arith}
-use borrow.Author.Rules.{rules}
+use mathlib.Core.Path.{◌≡◌}
+use Prim.Native.Nat.{◌+◌, ◌*◌, ◌≤◌}
 use Rattle.tables.specs.Section2.{after_tables}
-use Rattle.tables.proofs.Laws.{after_more, after_none}
 use Rattle.tables.proofs.after_tables.Given as goal
 
 abbrev pub invariant-loop-left : goal.invariant-loop-left

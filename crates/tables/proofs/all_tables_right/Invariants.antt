@@ -1,13 +1,8 @@
 -- At every turn the tables that are left decide, since those passed keep the rule, and take at most 578 bytes each.
-use mathlib.Core.Path.{◌≡◌, refl, sym, ap, ◌∙◌}
-use Prim.Native.Nat.{ℕ, ◌+◌, ◌-◌, ◌*◌, ◌≤◌}
-use native.Mathlib.Omega.{arith}
-use borrow.Author.Rules.{rules}
+use mathlib.Core.Path.{◌≡◌}
+use Prim.Native.Nat.{◌+◌, ◌*◌, ◌≤◌}
 use Rattle.tables.specs.Section2.{tables_from, table_right}
-use Rattle.wire.proofs.Tests.{kept, broken}
 use Rattle.wire.specs.RuleWords.{every}
-use Rattle.wire.proofs.Every.{every_miss, every_step, every_end}
-use Rattle.tables.proofs.Laws.{tables_cons, tables_none, after_right}
 use Rattle.tables.proofs.all_tables_right.Given as goal
 
 abbrev pub invariant-loop-left : goal.invariant-loop-left

@@ -1,13 +1,8 @@
 -- At every turn the structures that are left decide, since the prefix is apart from those passed; after the last nothing is left to decide.
-use mathlib.Core.Path.{◌≡◌, refl, sym, ap, ◌∙◌}
+use mathlib.Core.Path.{◌≡◌}
 use Prim.Native.Nat.{◌+◌, ◌*◌}
-use native.Mathlib.Omega.{arith}
-use borrow.Author.Rules.{rules}
 use Rattle.tables.specs.Structures.{structures_at, apart}
-use Rattle.wire.proofs.Tests.{kept, broken}
 use Rattle.wire.specs.RuleWords.{every}
-use Rattle.wire.proofs.Every.{every_miss, every_step, every_end}
-use Rattle.tables.proofs.Laws.{structures_cons, structures_none}
 use Rattle.tables.proofs.apart_from.Given as goal
 
 abbrev pub invariant-loop-left : goal.invariant-loop-left

@@ -1,11 +1,9 @@
-use mathlib.Core.Path.{◌≡◌, sym, ◌∙◌}
-use Prim.Native.Nat.{◌-◌}
+use mathlib.Core.Path.{sym, ◌∙◌}
 use native.Mathlib.Nat.{sub-zero}
 use native.Mathlib.Omega.{arith}
-use borrow.Author.Rules.{rules}
 use borrow.Author.Tests.{ltb-true, ltb-false}
 use Rattle.tables.specs.Structures.{apart}
-use Rattle.tables.proofs.Laws.{bits_apart, bits_differ, bits_same, bits_first, bits_second}
+use Rattle.tables.proofs.Laws.{bits_differ, bits_same, bits_first, bits_second}
 use Rattle.tables.proofs.is_apart.Goals as goal
 
 pub loop-k-init : goal.loop-k-init

@@ -1,12 +1,7 @@
 -- At every turn the bits still to come decide, since those passed are the same in both; a prefix that has none left begins the other.
-use mathlib.Core.Path.{◌≡◌, sym, ◌∙◌}
+use mathlib.Core.Path.{◌≡◌}
 use Prim.Native.Nat.{◌-◌}
-use native.Mathlib.Nat.{sub-zero}
-use native.Mathlib.Omega.{arith}
-use borrow.Author.Rules.{rules}
-use borrow.Author.Tests.{ltb-true, ltb-false}
-use Rattle.tables.specs.Structures.{apart}
-use Rattle.tables.proofs.Laws.{bits_apart, bits_differ, bits_same, bits_first, bits_second}
+use Rattle.tables.proofs.Laws.{bits_apart}
 use Rattle.tables.proofs.is_apart.Given as goal
 
 abbrev pub invariant-loop-k : goal.invariant-loop-k

@@ -1,6 +1,5 @@
 -- The test is the definition's.
 use mathlib.Core.Path.{sym, ◌∙◌}
-use borrow.Author.Rules.{rules}
 use borrow.Author.Tests.{eq-eqb, ne_eqb}
 use Rattle.tables.specs.Section2.{is_default}
 use Rattle.tables.proofs.is_default.Goals as goal

@@ -1,13 +1,7 @@
 -- At every turn the structures that are left decide, since each one passed is apart from all behind it.
-use mathlib.Core.Path.{◌≡◌, refl, ap, ◌∙◌}
-use Prim.Native.Nat.{◌+◌, ◌-◌, ◌*◌, ◌≤◌}
-use native.Mathlib.Omega.{arith}
-use borrow.Author.Rules.{rules}
-use Rattle.tables.specs.declared.Structure.{Structure}
-use Rattle.tables.specs.Structures.{structures_at, apart, prefix_free}
-use Rattle.wire.proofs.Tests.{kept, broken}
-use Rattle.wire.specs.RuleWords.{every}
-use Rattle.tables.proofs.Laws.{structures_cons, structures_none}
+use mathlib.Core.Path.{◌≡◌}
+use Prim.Native.Nat.{◌+◌, ◌*◌, ◌≤◌}
+use Rattle.tables.specs.Structures.{structures_at, prefix_free}
 use Rattle.tables.proofs.is_prefix_free.Given as goal
 
 abbrev pub invariant-loop-left : goal.invariant-loop-left

@@ -1,7 +1,6 @@
 -- The tests and the calls are the definition's, in its order.
 use mathlib.Core.Path.{sym, ◌∙◌}
 use native.Mathlib.Omega.{arith}
-use borrow.Author.Rules.{rules}
 use borrow.Author.Tests.{le-leb, lt-leb}
 use Rattle.tables.specs.Section2.{section2_right}
 use Rattle.wire.proofs.Tests.{kept, broken}

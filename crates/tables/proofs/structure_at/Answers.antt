@@ -1,5 +1,4 @@
 -- Each field is, by the definition, what its call gives.
-use borrow.Author.Rules.{rules}
 use Rattle.tables.specs.Structures.{structure_at}
 use Rattle.tables.proofs.structure_at.Goals as goal
 

@@ -1,5 +1,4 @@
 -- The tests are the definition's, in its order, and the last call answers for the mode.
-use borrow.Author.Rules.{rules}
 use borrow.Author.Tests.{lt-ltb, le-ltb, le-leb, lt-leb}
 use Rattle.tables.specs.Structures.{structure_right}
 use Rattle.tables.proofs.structure_right.Goals as goal

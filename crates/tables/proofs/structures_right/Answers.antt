@@ -1,10 +1,7 @@
-use mathlib.Core.Path.{◌≡◌, refl, sym, ap, ◌∙◌}
-use Prim.Native.Nat.{◌+◌, ◌*◌}
+use mathlib.Core.Path.{refl, sym, ap, ◌∙◌}
 use native.Mathlib.Omega.{arith}
-use borrow.Author.Rules.{rules}
-use Rattle.tables.specs.Structures.{structures_at, structure_right}
+use Rattle.tables.specs.Structures.{structure_right}
 use Rattle.wire.proofs.Tests.{kept, broken}
-use Rattle.wire.specs.RuleWords.{every}
 use Rattle.wire.proofs.Every.{every_miss, every_step, every_end}
 use Rattle.tables.proofs.Laws.{structures_cons, structures_none}
 use Rattle.tables.proofs.structures_right.Goals as goal

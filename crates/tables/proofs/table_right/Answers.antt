@@ -2,7 +2,6 @@
 -- stated, so that another in the code is refused by a number.
 use mathlib.Core.Path.{sym}
 use native.Mathlib.Omega.{arith}
-use borrow.Author.Rules.{rules}
 use borrow.Author.Tests.{le-leb, lt-leb}
 use Rattle.tables.specs.Section2.{table_at, table_right}
 use Rattle.wire.proofs.Tests.{kept, broken}

@@ -15,7 +15,7 @@ returns-then-self-eq0 c = let a = c.args in
 pub returns : goal.returns
 returns c = let a = c.args in
     let s = a.self in
-    let bytes : Bytes a.out.now = λ i. omega (arith, c.type_inv.out i) in
+    let bytes : Bytes a.out.now = search rules in
     let room = last_room s.part s.acc (omega arith) (omega arith) in
     let b : c.low_byte.result ≡ s.acc * 2 ^ (8 - s.part) = omega (arith, c.low_byte.ensures, room) in
     (λ bs h. end_part a.out.now s bytes bs h c.low_byte.result (omega arith) (omega arith) b, omega arith)

@@ -1,11 +1,8 @@
-use Prim.Native.Nat.{◌+◌, ◌*◌, ◌%◌, ◌^◌, ◌≤◌}
+use Prim.Native.Nat.{◌+◌, ◌*◌, ◌%◌, ◌^◌}
 use mathlib.Core.Path.{◌≡◌, refl, ◌∙◌}
-use mathlib.Core.List.{◌++◌}
 use native.Mathlib.Omega.{arith}
-use borrow.Author.Rules.{rules}
-use lib.ListN.{length, take, drop, length-set}
+use lib.ListN.{length-set}
 use lib.Pow.{pow_pos, pow_mono}
-use Rattle.bits.specs.Bits.{high_first, bits_in}
 use Rattle.packing.proofs.Sinks.{word_room, byte_more, byte_rest, put_all}
 use Rattle.packing.proofs.Sink.put.Goals as goal
 

@@ -1,13 +1,9 @@
 -- At every turn the bytes and the bits that are left are those of the start (`byte_more`); in the end fewer than eight bits are left.
-use Prim.Native.Nat.{◌+◌, ◌*◌, ◌%◌, ◌^◌, ◌≤◌}
-use mathlib.Core.Path.{◌≡◌, refl, ◌∙◌}
+use Prim.Native.Nat.{◌+◌, ◌*◌, ◌≤◌}
+use mathlib.Core.Path.{◌≡◌}
 use mathlib.Core.List.{◌++◌}
-use native.Mathlib.Omega.{arith}
-use borrow.Author.Rules.{rules}
-use lib.ListN.{length, take, drop, length-set}
-use lib.Pow.{pow_pos, pow_mono}
+use lib.ListN.{length, take, drop}
 use Rattle.bits.specs.Bits.{high_first, bits_in}
-use Rattle.packing.proofs.Sinks.{word_room, byte_more, byte_rest, put_all}
 use Rattle.packing.proofs.Sink.put.Given as goal
 
 abbrev pub invariant-loop-part : goal.invariant-loop-part
