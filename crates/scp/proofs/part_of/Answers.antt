@@ -5,7 +5,7 @@ use borrow.Author.Rules.{rules}
 use Rattle.scp.proofs.part_of.Goals as goal
 
 pub returns-in-At : goal.returns-in-At
-returns-in-At c = sym (ap part_at c.place-1.given.1)
+returns-in-At c = sym (ap part_at c.in-At.is)
 
 pub returns-in-Refused : goal.returns-in-Refused
-returns-in-Refused c = sym (ap part_at c.place-in-Refused-1.given.1)
+returns-in-Refused c = sym (ap part_at c.in-Refused.is)

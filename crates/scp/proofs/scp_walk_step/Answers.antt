@@ -6,10 +6,10 @@ use borrow.Author.Rules.{rules}
 use Rattle.scp.proofs.scp_walk_step.Goals as goal
 
 pub overflow_sub-result : goal.overflow_sub-result
-overflow_sub-result c = (step_found c.args.section.now c.args.at _ (sym c.step_at.ensures ∙ c.f-1.given.1)).order
+overflow_sub-result c = (step_found c.args.section.now c.args.at _ (sym c.in-Found.ensures)).order
 
 pub returns-in-Found : goal.returns-in-Found
-returns-in-Found c = sym (ap (shown c.args.at) (sym c.step_at.ensures ∙ c.f-1.given.1))
+returns-in-Found c = ap (shown c.args.at) c.in-Found.ensures
 
 pub returns-in-End : goal.returns-in-End
-returns-in-End c = sym (ap (shown c.args.at) (sym c.step_at.ensures ∙ c.enum_told-1.given.1))
+returns-in-End c = ap (shown c.args.at) c.in-End.ensures
