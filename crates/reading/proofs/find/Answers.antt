@@ -22,12 +22,12 @@ pub overflow_cast-tab : goal.overflow_cast-tab
 overflow_cast-tab c = omega (arith, c.type_inv.tab (c.args.t * 385))
 
 pub form_at-guessed-requires : goal.form_at-guessed-requires
-form_at-guessed-requires c = 
+form_at-guessed-requires c =
     let ready = c.requires.0.1 in
     (ready.room, omega arith, omega (arith, held_count ready c.args.t (omega arith)))
 
 pub fits_guess-requires : goal.fits_guess-requires
-fits_guess-requires c = 
+fits_guess-requires c =
     let f = held_fine c.requires.0.1 c.args.t (omega arith) (c.guess-guess.result % 64) (omega arith) in
     rw c.form_at-guessed.ensures (f.some, f.most)
 
@@ -51,6 +51,9 @@ guessed c tables bs ready seen =
     (e, m.0, m.1)
 
 pub returns-then-fits_guess : goal.returns-then-fits_guess
-returns-then-fits_guess c = record { found = λ tables bs ready seen.
+returns-then-fits_guess c = record {
+  found = λ tables bs ready seen.
       let g = guessed c tables bs ready seen in
-      ap some (sym g.0) ∙ ap formed (sym g.1); placed = λ tables bs ready seen. omega (arith, (guessed c tables bs ready seen).2); }
+      ap some (sym g.0) ∙ ap formed (sym g.1);
+  placed = λ tables bs ready seen. omega (arith, (guessed c tables bs ready seen).2);
+}

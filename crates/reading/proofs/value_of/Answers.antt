@@ -24,29 +24,37 @@ pub overflow_add-result : goal.overflow_add-result
 overflow_add-result c = omega (arith, (own (goal.at.overflow_add-result c).Start).fine.most)
 
 pub returns-then-q-eq0 : goal.returns-then-q-eq0
-returns-then-q-eq0 c = let a = c.args in record { told = λ d bs e right small seen.
-          let v = value_form d a.f e right c.requires.0.3 in
-          let x : from_zero 131072 a.f.lo ≡ signed 16 d.base =
-          ap (from_zero 131072) (v.lo ∙ ap (lowest d.base) c.if-q-eq0.true) ∙ lower_base d.base small in
-          rw (
-            v.rest,
-            v.prefix,
-            value_base a.f.remainder d.base a.c.table (drop a.f.prefix (drop a.c.at bs)) c.if-q-eq0.true,
-            x,
-            drop-drop a.f.prefix a.c.at bs,
-          ); onward = omega (arith, (own (goal.at.returns-then-q-eq0 c).Start).fine.some, (own (goal.at.returns-then-q-eq0 c).Start).fine.lo); summed = refl; }
+returns-then-q-eq0 c = let a = c.args in record {
+  told = λ d bs e right small seen.
+      let v = value_form d a.f e right c.requires.0.3 in
+      let x : from_zero 131072 a.f.lo ≡ signed 16 d.base =
+      ap (from_zero 131072) (v.lo ∙ ap (lowest d.base) c.if-q-eq0.true) ∙ lower_base d.base small in
+      rw (
+        v.rest,
+        v.prefix,
+        value_base a.f.remainder d.base a.c.table (drop a.f.prefix (drop a.c.at bs)) c.if-q-eq0.true,
+        x,
+        drop-drop a.f.prefix a.c.at bs,
+      );
+  onward = omega (arith, (own (goal.at.returns-then-q-eq0 c).Start).fine.some, (own (goal.at.returns-then-q-eq0 c).Start).fine.lo);
+  summed = refl;
+}
 
 pub overflow_add-p : goal.overflow_add-p
 overflow_add-p c = let v = own (goal.at.overflow_add-p c).Start in omega (arith, v.fine.most, v.fine.rest)
 
 pub returns-then-left-p : goal.returns-then-left-p
-returns-then-left-p c = let a = c.args in record { told = λ d bs e right small seen.
-          let v = value_form d a.f e right c.requires.0.3 in
-          let l = drop a.c.at bs in
-          rw (v.rest, v.prefix)
-          (sym
-          (value_short a.f.remainder d.base a.c.table (drop a.f.prefix l)
-          (omega (arith, length-drop a.f.prefix l, seen.count)))); onward = tt; summed = tt; }
+returns-then-left-p c = let a = c.args in record {
+  told = λ d bs e right small seen.
+      let v = value_form d a.f e right c.requires.0.3 in
+      let l = drop a.c.at bs in
+      rw (v.rest, v.prefix)
+      (sym
+      (value_short a.f.remainder d.base a.c.table (drop a.f.prefix l)
+      (omega (arith, length-drop a.f.prefix l, seen.count))));
+  onward = tt;
+  summed = tt;
+}
 
 pub after-n-requires : goal.after-n-requires
 after-n-requires c = let v = own (goal.at.after-n-requires c).Start in
@@ -71,10 +79,11 @@ overflow_add-result-3 c = let v = own (goal.at.overflow_add-result-3 c).Start in
     omega (arith, v.fine.most, v.fine.rest)
 
 pub returns : goal.returns
-returns c = 
+returns c =
     let a = c.args in
     let p = a.f.prefix in
-    let q = a.f.remainder in record { told = λ d bs e right small seen.
+    let q = a.f.remainder in record {
+      told = λ d bs e right small seen.
           let v = value_form d a.f e right c.requires.0.3 in
           let h = rest_half v c.if-q-eq0.false in
           let l = drop a.c.at bs in
@@ -91,4 +100,7 @@ returns c =
             x,
             drop-drop p a.c.at bs,
             drop-drop q (a.c.at + p) bs,
-          ); onward = omega (arith, (own (goal.at.returns c).Start).fine.some, c.raised.ensures.1); summed = refl; }
+          );
+      onward = omega (arith, (own (goal.at.returns c).Start).fine.some, c.raised.ensures.1);
+      summed = refl;
+    }

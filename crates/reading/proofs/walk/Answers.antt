@@ -31,7 +31,7 @@ form_at-f-requires c = let ready = c.requires.0.1 in
     (ready.room, omega arith, omega (arith, held_count ready c.args.t (omega arith)))
 
 pub begins_with-requires : goal.begins_with-requires
-begins_with-requires c = 
+begins_with-requires c =
     let f = held_fine c.requires.0.1 c.args.t (omega arith) c.loop-k.k (omega arith) in
     rw c.form_at-f.ensures (f.some, f.most)
 
@@ -64,13 +64,16 @@ overflow_add-result c = omega (arith, few (goal.at.overflow_add-result c).After-
 pub returns-then-begins_with : goal.returns-then-begins_with
 returns-then-begins_with c = let l = c.loop-k in
     let cs : List (List Structure) → List Structure =
-    λ tables. get_or tables c.args.t [] in record { found = λ tables bs ready seen.
+    λ tables. get_or tables c.args.t [] in record {
+      found = λ tables bs ready seen.
           let told = tells (goal.at.returns-then-begins_with c).After-begins_with tables bs ready seen in
           let here = matching_here (cs tables) bs l.k (there (goal.at.returns-then-begins_with c).After-begins_with tables ready) (sym told.1 ∙ c.if-begins_with.true) in
-          ap some (sym told.0) ∙ ap formed (sym here.0 ∙ (l.invariant.1 tables bs ready seen).0); placed = λ tables bs ready seen.
+          ap some (sym told.0) ∙ ap formed (sym here.0 ∙ (l.invariant.1 tables bs ready seen).0);
+      placed = λ tables bs ready seen.
           let told = tells (goal.at.returns-then-begins_with c).After-begins_with tables bs ready seen in
           let here = matching_here (cs tables) bs l.k (there (goal.at.returns-then-begins_with c).After-begins_with tables ready) (sym told.1 ∙ c.if-begins_with.true) in
-          omega (arith, here.1, (l.invariant.1 tables bs ready seen).1); }
+          omega (arith, here.1, (l.invariant.1 tables bs ready seen).1);
+    }
 
 pub overflow_add-k : goal.overflow_add-k
 overflow_add-k c = omega (arith, few (goal.at.overflow_add-k c).After-begins_with)
@@ -89,6 +92,9 @@ loop-k-preserved c = let l = c.loop-k in
 
 pub returns : goal.returns
 returns c = let l = c.loop-k in
-    let t = c.args.t in record { found = λ tables bs ready seen.
+    let t = c.args.t in record {
+      found = λ tables bs ready seen.
           let end = matching_end (get_or tables t []) bs l.k (omega (arith, (ready.says t (omega arith)).count)) in
-          ap formed (sym end ∙ (l.invariant.1 tables bs ready seen).0); placed = λ tables bs ready seen. tt; }
+          ap formed (sym end ∙ (l.invariant.1 tables bs ready seen).0);
+      placed = λ tables bs ready seen. tt;
+    }

@@ -2,7 +2,6 @@
 -- so the beat can be counted.
 use mathlib.Core.Path.{◌≡◌, ap₂, ◌∙◌}
 use mathlib.Core.Bool.{and-false}
-use borrow.Author.Rules.{rules}
 use Rattle.pointers.specs.Pointers.{section_of}
 use Rattle.entries.specs.Sections5And6.{streams_right}
 use Rattle.entries.specs.Section4.{section4_right}
@@ -26,27 +25,27 @@ returns-then-not-has_beat c = simp (broken c.has_beat.ensures c.if-not-has_beat.
 
 pub returns-then-not-is_present : goal.returns-then-not-is_present
 unfolding beat_right
-returns-then-not-is_present c = 
+returns-then-not-is_present c =
     simp (kept c.has_beat.ensures c.if-not-has_beat.false, broken c.is_present.ensures c.if-not-is_present.true)
 
 pub returns-then-not-is_present-2 : goal.returns-then-not-is_present-2
 unfolding beat_right
-returns-then-not-is_present-2 c = 
+returns-then-not-is_present-2 c =
     simp (kept c.has_beat.ensures c.if-not-has_beat.false, broken c.is_present-2.ensures c.if-not-is_present-2.true, and-false)
 
 pub returns-then-not-streams_right : goal.returns-then-not-streams_right
 unfolding beat_right
-returns-then-not-streams_right c = 
+returns-then-not-streams_right c =
     simp (kept c.has_beat.ensures c.if-not-has_beat.false, broken (asked (goal.at.returns-then-not-streams_right c).After-streams_right) c.if-not-streams_right.true, and-false)
 
 pub beat_sample_count-requires : goal.beat_sample_count-requires
-beat_sample_count-requires c = 
+beat_sample_count-requires c =
     let r = c.args.rec.now in
     interval_some (lead_count_of r) (section_of r 5) (kept (asked (goal.at.beat_sample_count-requires c).After-streams_right) c.if-not-streams_right.false)
 
 pub returns : goal.returns
 unfolding beat_right
-returns c = 
+returns c =
     let c = c in
     simp (
       kept c.has_beat.ensures c.if-not-has_beat.false,

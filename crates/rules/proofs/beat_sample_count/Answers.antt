@@ -3,7 +3,6 @@ use Prim.Native.Nat.{ℕ}
 use mathlib.Core.Path.{◌≡◌, ap, ap₂, ◌∙◌}
 use mathlib.Core.List.{List}
 use native.Mathlib.Omega.{arith}
-use borrow.Author.Rules.{rules}
 use Rattle.pointers.specs.Pointers.{section_of}
 use Rattle.entries.specs.Sections5And6.{interval_of}
 use Rattle.entries.specs.Section4.{beat_length, samples_in_beat}
@@ -22,6 +21,6 @@ samples_in_beat-requires c = let e = interval c in
 
 pub returns : goal.returns
 unfolding beat_sample_count
-returns c = 
+returns c =
     let ms = c.beat_length-ms.ensures.0 ∙ ap (λ (s : List ℕ). beat_length s) c.section_of.ensures in
     (c.samples_in_beat.ensures.0 ∙ ap₂ samples_in_beat ms (interval (goal.at.returns c).After-interval_of-interval), c.samples_in_beat.ensures.1)

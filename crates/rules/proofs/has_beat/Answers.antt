@@ -3,7 +3,6 @@ use Prim.Native.Nat.{ℕ, ◌%◌}
 use mathlib.Core.Path.{◌≡◌, refl, ap, ◌∙◌}
 use mathlib.Core.Bool.{and-false}
 use mathlib.Core.List.{List}
-use borrow.Author.Rules.{rules}
 use Rattle.pointers.specs.Pointers.{section_of}
 use Rattle.entries.specs.Section3.{flags_of}
 use Rattle.rules.specs.LeadRules.{beat_subtracted}
@@ -26,5 +25,5 @@ returns-then-flags_of-ne1 c = simp (differ (flag (goal.at.returns-then-flags_of-
 
 pub returns : goal.returns
 unfolding beat_subtracted
-returns c = 
+returns c =
     simp (kept c.is_present.ensures c.if-not-is_present.false, same (flag (goal.at.returns c).After-flags_of) refl c.if-flags_of-ne1.false)

@@ -1,7 +1,6 @@
 -- The tests are the rule's four parts, in its order.
 use mathlib.Core.Bool.{and-false}
 use native.Mathlib.Omega.{arith}
-use borrow.Author.Rules.{rules}
 use borrow.Author.Tests.{le-leb, lt-leb}
 use Rattle.rules.specs.LeadRules.{lead_count_of, has_lead}
 use Rattle.wire.proofs.Tests.{kept, broken}
@@ -27,7 +26,7 @@ returns-then-leads_of-place c = let a = c.args in
 
 pub returns : goal.returns
 unfolding has_lead
-returns c = 
+returns c =
     let a = c.args in
     simp (
       kept c.is_present.ensures c.if-not-is_present.false,

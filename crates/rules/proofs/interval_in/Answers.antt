@@ -2,7 +2,6 @@
 use Prim.Native.Nat.{ℕ}
 use mathlib.Core.Path.{ap, ◌∙◌}
 use mathlib.Core.List.{List}
-use borrow.Author.Rules.{rules}
 use Rattle.entries.specs.Sections5And6.{interval_of}
 use Rattle.rules.proofs.interval_in.Goals as goal
 

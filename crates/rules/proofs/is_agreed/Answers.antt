@@ -2,7 +2,6 @@
 use Prim.Native.Nat.{ℕ}
 use mathlib.Core.Path.{◌≡◌, refl, ap, ◌∙◌}
 use mathlib.Core.List.{List}
-use borrow.Author.Rules.{rules}
 use Rattle.pointers.specs.Pointers.{section_of}
 use Rattle.entries.specs.Sections5And6.{bimodal_of}
 use Rattle.rules.specs.LeadRules.{agrees}
@@ -20,11 +19,11 @@ returns-then-not-is_present c = simp (broken c.is_present.ensures c.if-not-is_pr
 
 pub returns-then-bimodal_of-ne0 : goal.returns-then-bimodal_of-ne0
 unfolding agrees
-returns-then-bimodal_of-ne0 c = 
+returns-then-bimodal_of-ne0 c =
     simp (kept c.is_present.ensures c.if-not-is_present.false, differ {b = 0} (bimodal (goal.at.returns-then-bimodal_of-ne0 c).After-bimodal_of) refl c.if-bimodal_of-ne0.true)
 
 pub returns : goal.returns
 unfolding agrees
-returns c = 
+returns c =
     simp (kept c.is_present.ensures c.if-not-is_present.false, same {b = 0} (bimodal (goal.at.returns c).After-bimodal_of) refl c.if-bimodal_of-ne0.false)
     c.steps_agree.ensures

@@ -2,7 +2,6 @@
 use Prim.Native.Nat.{ℕ}
 use mathlib.Core.Path.{ap, ◌∙◌}
 use mathlib.Core.List.{List}
-use borrow.Author.Rules.{rules}
 use Rattle.entries.specs.Section3.{lead_count}
 use Rattle.rules.proofs.leads_of.Goals as goal
 

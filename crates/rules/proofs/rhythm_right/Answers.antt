@@ -1,6 +1,5 @@
 -- An absent Section 6 keeps the rule; another is judged for the leads of Section 3.
 use mathlib.Core.Path.{ap₂, ◌∙◌}
-use borrow.Author.Rules.{rules}
 use Rattle.entries.specs.Sections5And6.{section6_right}
 use Rattle.rules.specs.LeadRules.{section6_kept}
 use Rattle.wire.proofs.Tests.{kept, broken}
@@ -12,7 +11,7 @@ returns-then-not-is_present c = simp (broken c.is_present.ensures c.if-not-is_pr
 
 pub returns : goal.returns
 unfolding section6_kept
-returns c = 
+returns c =
     let n = c.requires.0 in
     simp (kept c.is_present.ensures c.if-not-is_present.false)
     (c.section6_right.ensures ∙ ap₂ section6_right n c.section_of.ensures)

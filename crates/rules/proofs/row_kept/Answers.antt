@@ -1,6 +1,4 @@
 -- A row's test finds its rule, and where no row's does there is none.
-use mathlib.Core.Path.{◌≡◌}
-use borrow.Author.Rules.{rules}
 use borrow.Author.Tests.{ne_eqb}
 use Rattle.rules.specs.Rows.{row_kept}
 use Rattle.rules.proofs.row_kept.Goals as goal
@@ -44,13 +42,13 @@ returns-then-row-eq9 c = rw c.if-row-eq9.true c.is_agreed.ensures
 pub returns : goal.returns
 unfolding row_kept
 returns c = simp (
-      ne_eqb _ 9 c.if-row-eq9.false,
-      ne_eqb _ 8 c.if-row-eq8.false,
-      ne_eqb _ 7 c.if-row-eq7.false,
-      ne_eqb _ 6 c.if-row-eq6.false,
-      ne_eqb _ 5 c.if-row-eq5.false,
-      ne_eqb _ 4 c.if-row-eq4.false,
-      ne_eqb _ 3 c.if-row-eq3.false,
-      ne_eqb _ 2 c.if-row-eq2.false,
-      ne_eqb _ 1 c.if-row-eq1.false,
-    )
+  ne_eqb _ 9 c.if-row-eq9.false,
+  ne_eqb _ 8 c.if-row-eq8.false,
+  ne_eqb _ 7 c.if-row-eq7.false,
+  ne_eqb _ 6 c.if-row-eq6.false,
+  ne_eqb _ 5 c.if-row-eq5.false,
+  ne_eqb _ 4 c.if-row-eq4.false,
+  ne_eqb _ 3 c.if-row-eq3.false,
+  ne_eqb _ 2 c.if-row-eq2.false,
+  ne_eqb _ 1 c.if-row-eq1.false,
+)

@@ -1,6 +1,5 @@
 -- Without a beat nothing is compared; with one the tests are the rule's two parts, in its order.
 use mathlib.Core.Bool.{and-false}
-use borrow.Author.Rules.{rules}
 use Rattle.rules.specs.LeadRules.{steps_agree}
 use Rattle.wire.proofs.Tests.{kept, broken, same, differ}
 use Rattle.rules.proofs.steps_agree.Goals as goal
@@ -11,7 +10,7 @@ returns-then-not-has_beat c = simp (broken c.has_beat.ensures c.if-not-has_beat.
 
 pub returns-then-step_in : goal.returns-then-step_in
 unfolding steps_agree
-returns-then-step_in c = 
+returns-then-step_in c =
     simp (
       kept c.has_beat.ensures c.if-not-has_beat.false,
       differ c.step_in.ensures c.step_in-2.ensures c.if-step_in.true,
@@ -19,7 +18,7 @@ returns-then-step_in c =
 
 pub returns-then-interval_in : goal.returns-then-interval_in
 unfolding steps_agree
-returns-then-interval_in c = 
+returns-then-interval_in c =
     simp (
       kept c.has_beat.ensures c.if-not-has_beat.false,
       differ c.interval_in.ensures c.interval_in-2.ensures c.if-interval_in.true,
@@ -28,7 +27,7 @@ returns-then-interval_in c =
 
 pub returns : goal.returns
 unfolding steps_agree
-returns c = 
+returns c =
     simp (
       kept c.has_beat.ensures c.if-not-has_beat.false,
       same c.step_in.ensures c.step_in-2.ensures c.if-step_in.false,

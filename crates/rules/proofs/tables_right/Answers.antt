@@ -2,7 +2,6 @@
 use Prim.Native.Nat.{ℕ}
 use mathlib.Core.Path.{ap, ◌∙◌}
 use mathlib.Core.List.{List}
-use borrow.Author.Rules.{rules}
 use Rattle.tables.specs.Section2.{section2_right}
 use Rattle.rules.specs.LeadRules.{tables_right}
 use Rattle.wire.proofs.Tests.{kept, broken}
@@ -14,6 +13,6 @@ returns-then-not-is_present c = simp (broken c.is_present.ensures c.if-not-is_pr
 
 pub returns : goal.returns
 unfolding tables_right
-returns c = 
+returns c =
     simp (kept c.is_present.ensures c.if-not-is_present.false)
     (c.section2_right.ensures ∙ ap (λ (s : List ℕ). section2_right 1 s 16) c.section_of.ensures)

@@ -25,19 +25,23 @@ returns-in-Ended c = let a = c.args in
     let l = c.loop-r in
     let said = c.burst.ensures in
     let n = length a.s.now * 8 in
-    let is = c.r-1.given.1 in record { told = λ tables ready.
-          sym (ap (told_of tables (bits_in a.s.now)) is) ∙ said.told tables ready ∙ (l.invariant.2 tables ready).0; onward = onward_from a.self.at l.c.at n l.invariant.1 c.r-1.given.0.0 (subst (OnwardOf l.c.at n) is said.onward); summed = λ tables ready.
-            subst (λ (m : ℕ). Summed m c.r-1.given.0.0) (l.invariant.2 tables ready).1
-            (subst (SummedOf tables (bits_in a.s.now) _) is (said.summed tables ready)); }
+    let is = c.in-Ended.is in record {
+      told = λ tables ready.
+          sym (ap (told_of tables (bits_in a.s.now)) is) ∙ said.told tables ready ∙ (l.invariant.2 tables ready).0;
+      onward = onward_from a.self.at l.c.at n l.invariant.1 c.in-Ended.r (subst (OnwardOf l.c.at n) is said.onward);
+      summed = λ tables ready.
+          subst (λ (m : ℕ). Summed m c.in-Ended.r) (l.invariant.2 tables ready).1
+          (subst (SummedOf tables (bits_in a.s.now) _) is (said.summed tables ready));
+    }
 
 -- the cursor of a burst that did not end is further on
 further : (c : In-More) →
     let n = length c.args.s.now * 8 in
-    let d = c.d-1.given.0.0 in
+    let d = c.in-More.d in
     (c.loop-r.c.at < d.at) × Within n d
 further c =
     let n = length c.args.s.now * 8 in
-    subst (OnwardOf c.loop-r.c.at n) c.d-1.given.1 c.burst.ensures.onward
+    subst (OnwardOf c.loop-r.c.at n) c.in-More.is c.burst.ensures.onward
 
 pub loop-r-smaller : goal.loop-r-smaller
 loop-r-smaller c = omega (arith, further c)
@@ -45,7 +49,7 @@ loop-r-smaller c = omega (arith, further c)
 pub loop-r-preserved : goal.loop-r-preserved
 loop-r-preserved c = let bits = bits_in c.args.s.now in
     let said = c.burst.ensures in
-    let is = c.d-1.given.1 in
+    let is = c.in-More.is in
     let inv = c.loop-r.invariant in (
       (further c).1,
       omega (arith, (further c).0),

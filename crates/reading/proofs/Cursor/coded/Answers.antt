@@ -16,37 +16,28 @@ use Rattle.reading.specs.InnerCursor.{Seen, found_in, told_of, Summed, SummedOf,
 use Rattle.reading.proofs.Laws.{read_none}
 use Rattle.reading.proofs.Cursors.{length_left, seen_left, found_none, FoundForm, found_form, read_form, read_on, onward_from}
 use Rattle.reading.proofs.Cursor.coded.Goals as goal
-use Rattle.reading.proofs.Cursor.coded.Goals.{After-follow, After-window-w, In-At-2, In-More}
+use Rattle.reading.proofs.Cursor.coded.Goals.{After-follow, In-At, In-More}
 
 pub find-requires : goal.find-requires
 find-requires c = (c.requires.0, omega arith)
 
--- the bits at the cursor are seen through the window
-seen : (c : After-window-w) →
-    let a = c.args in
-    Seen (drop a.self.at (bits_in a.s.now)) c.window-w.result (length a.s.now * 8 - a.self.at)
-seen c =
-    let a = c.args in
-    seen_left a.s.now a.self.at c.window-w.result c.window-w.ensures
-
 -- the form that was found is that of the structure that is matched
-found : (c : In-At-2) →
+found : (c : In-At) →
     let a = c.args in
     (tables : List (List Structure)) → Compiled tables a.tab.now
-    → FoundForm tables a.self.table (drop a.self.at (bits_in a.s.now)) c.first-1.given.0.0 c.first-1.given.0.1.0
+    → FoundForm tables a.self.table (drop a.self.at (bits_in a.s.now)) c.in-At.first c.in-At.place
 found c tables ready =
     let a = c.args in
     let bs = drop a.self.at (bits_in a.s.now) in
     let find = c.find in
-    let sees = seen c in
-    found_form ready a.self.table (omega arith) (omega arith) bs find.result c.first-1.given.0.0 c.first-1.given.0.1.0
-    c.first-1.given.1
+    let sees = seen_left a.s.now a.self.at c.window-w.result c.window-w.ensures in
+    found_form ready a.self.table (omega arith) (omega arith) bs find.result c.in-At.first c.in-At.place c.in-At.is
     (find.ensures.found tables bs ready sees)
     (find.ensures.placed tables bs ready sees)
 
 pub value_of-requires : goal.value_of-requires
-value_of-requires c = 
-    let d = found (goal.at.value_of-requires c).In-At-2 c.requires.0.0 c.requires.0.1 in (
+value_of-requires c =
+    let d = found (goal.at.value_of-requires c).In-At c.requires.0.0 c.requires.0.1 in (
       (d.structure, d.form, d.right, c.if-first-eq0.true),
       omega (arith, d.long, length_left c.args.s.now c.args.self.at),
       omega arith,
@@ -55,20 +46,24 @@ value_of-requires c =
     )
 
 pub returns-then-first-eq0 : goal.returns-then-first-eq0
-returns-then-first-eq0 c = 
+returns-then-first-eq0 c =
     let a = c.args in
-    let all : a.self.at + (length a.s.now * 8 - a.self.at) ≡ length a.s.now * 8 = omega arith in record { told = λ tables ready.
-          let d = found (goal.at.returns-then-first-eq0 c).In-At-2 tables ready in
+    let all : a.self.at + (length a.s.now * 8 - a.self.at) ≡ length a.s.now * 8 = omega arith in record {
+      told = λ tables ready.
+          let d = found (goal.at.returns-then-first-eq0 c).In-At tables ready in
           c.value_of.ensures.told d.structure (bits_in a.s.now) d.form d.right d.small
-          (seen (goal.at.returns-then-first-eq0 c).After-window-w)
-          ∙ sym (read_form ready.right d c.if-first-eq0.true).0; onward = rw all at c.value_of.ensures.onward; summed = λ tables ready.
-            let d = found (goal.at.returns-then-first-eq0 c).In-At-2 tables ready in
-            rw (read_form ready.right d c.if-first-eq0.true).1 c.value_of.ensures.summed; }
+          (seen_left a.s.now a.self.at c.window-w.result c.window-w.ensures)
+          ∙ sym (read_form ready.right d c.if-first-eq0.true).0;
+      onward = rw all at c.value_of.ensures.onward;
+      summed = λ tables ready.
+          let d = found (goal.at.returns-then-first-eq0 c).In-At tables ready in
+          rw (read_form ready.right d c.if-first-eq0.true).1 c.value_of.ensures.summed;
+    }
 
 -- a switch was matched, by which reading carries on
 pub follow-requires : goal.follow-requires
-follow-requires c = 
-    let d = found (goal.at.follow-requires c).In-At-2 c.requires.0.0 c.requires.0.1 in
+follow-requires c =
+    let d = found (goal.at.follow-requires c).In-At c.requires.0.0 c.requires.0.1 in
     let n = length_left c.args.s.now c.args.self.at in
     let on = pos_of_ne-zero c.if-first-eq0.false in
     (c.requires.0, omega arith, c.requires.2, omega (arith, d.fine.some, d.long, d.fine.to), d.few)
@@ -78,11 +73,11 @@ followed : (c : After-follow) →
     let a = c.args in
     let bits = bits_in a.s.now in
     (tables : List (List Structure)) → Compiled tables a.tab.now
+    → FoundForm tables a.self.table (drop a.self.at bits) c.in-At.first c.in-At.place
     → (told_of tables bits c.follow.result ≡ read_coded tables a.self.table (drop a.self.at bits))
     × SummedOf tables bits (a.self.compared + compared_coded tables a.self.table (drop a.self.at bits)) c.follow.result
-followed c tables ready =
+followed c tables ready d =
     let a = c.args in
-    let d = found c tables ready in
     let on = read_on ready.right a.self.at (bits_in a.s.now) d c.if-first-eq0.false in (
       rw on.0 (c.follow.ensures.told tables ready),
       subst (λ (n : ℕ). SummedOf tables (bits_in a.s.now) n c.follow.result) (omega (arith, on.1)) (c.follow.ensures.summed tables ready),
@@ -91,34 +86,53 @@ followed c tables ready =
 -- where the depth was used up, the cursor is further on
 further : (c : In-More) →
     let a = c.args in
-    let d = c.d-1.given.0.0 in
+    let d = c.in-More.d in
     (a.self.at < d.at) × Within (length a.s.now * 8) d
 further c =
     let a = c.args in
-    subst (OnwardOf a.self.at (length a.s.now * 8)) c.d-1.given.1 c.follow.ensures.onward
+    subst (OnwardOf a.self.at (length a.s.now * 8)) c.in-More.is c.follow.ensures.onward
 
 pub by_bursts-requires : goal.by_bursts-requires
-by_bursts-requires c = 
+by_bursts-requires c =
     (c.requires.0, omega arith, (further c).1)
 
 pub returns-in-Ended : goal.returns-in-Ended
-returns-in-Ended c = let a = c.args in
-    let is = c.r-1.given.1 in record { told = λ tables ready. sym (ap (told_of tables (bits_in a.s.now)) is) ∙ (followed (goal.at.returns-in-Ended c).After-follow tables ready).0; onward = subst (OnwardOf a.self.at (length a.s.now * 8)) is c.follow.ensures.onward; summed = λ tables ready. subst (SummedOf tables (bits_in a.s.now) _) is (followed (goal.at.returns-in-Ended c).After-follow tables ready).1; }
+returns-in-Ended c =
+    let a = c.args in
+    let is = c.in-Ended.is in
+    let found = found (goal.at.returns-in-Ended c).In-At in
+    let followed = followed (goal.at.returns-in-Ended c).After-follow in record {
+      told = λ tables ready.
+          sym (ap (told_of tables (bits_in a.s.now)) is) ∙ (followed tables ready (found tables ready)).0;
+      onward = subst (OnwardOf a.self.at (length a.s.now * 8)) is c.follow.ensures.onward;
+      summed = λ tables ready.
+          subst (SummedOf tables (bits_in a.s.now) _) is (followed tables ready (found tables ready)).1;
+    }
 
 pub returns-in-More : goal.returns-in-More
-returns-in-More c = 
+returns-in-More c =
     let a = c.args in
-    let d = c.d-1.given in
-    let on = (further (goal.at.returns-in-More c).In-More).0 in record { told = λ tables ready.
+    let is = c.in-More.is in
+    let found = found (goal.at.returns-in-More c).In-At in
+    let followed = followed (goal.at.returns-in-More c).After-follow in
+    let on = (further (goal.at.returns-in-More c).In-More).0 in record {
+      told = λ tables ready.
           c.by_bursts.ensures.told tables ready
-          ∙ sym (ap (told_of tables (bits_in a.s.now)) d.1)
-          ∙ (followed (goal.at.returns-in-More c).After-follow tables ready).0; onward = onward_from a.self.at d.0.0.at (length a.s.now * 8) (omega arith) c.by_bursts.result c.by_bursts.ensures.onward; summed = λ tables ready.
-            let sum = subst (SummedOf tables (bits_in a.s.now) _) d.1 (followed (goal.at.returns-in-More c).After-follow tables ready).1 in
-            subst (λ (n : ℕ). Summed n c.by_bursts.result) sum (c.by_bursts.ensures.summed tables ready); }
+          ∙ sym (ap (told_of tables (bits_in a.s.now)) is)
+          ∙ (followed tables ready (found tables ready)).0;
+      onward = onward_from a.self.at c.in-More.d.at (length a.s.now * 8) (omega arith) c.by_bursts.result c.by_bursts.ensures.onward;
+      summed = λ tables ready.
+          let sum = subst (SummedOf tables (bits_in a.s.now) _) is (followed tables ready (found tables ready)).1 in
+          subst (λ (n : ℕ). Summed n c.by_bursts.result) sum (c.by_bursts.ensures.summed tables ready);
+    }
 
 pub returns-in-Nothing : goal.returns-in-Nothing
 returns-in-Nothing c = let a = c.args in
-    let bs = drop a.self.at (bits_in a.s.now) in record { told = λ tables ready.
-          let looked = c.find.ensures.found tables bs ready (seen (goal.at.returns-in-Nothing c).After-window-w) in
-          let none = found_none tables a.self.table bs (omega arith) (sym (ap found_in c.enum_told-1.given.1) ∙ looked) in
-          sym (read_none (length tables) tables ready.right a.self.table bs none); onward = tt; summed = λ tables ready. tt; }
+    let bs = drop a.self.at (bits_in a.s.now) in record {
+      told = λ tables ready.
+          let looked = c.find.ensures.found tables bs ready (seen_left a.s.now a.self.at c.window-w.result c.window-w.ensures) in
+          let none = found_none tables a.self.table bs (omega arith) (sym (ap found_in c.in-Nothing.is) ∙ looked) in
+          sym (read_none (length tables) tables ready.right a.self.table bs none);
+      onward = tt;
+      summed = λ tables ready. tt;
+    }

@@ -43,7 +43,7 @@ pub returns-then-s-at-lt16 : goal.returns-then-s-at-lt16
 unfolding read_plain
 returns-then-s-at-lt16 c = let a = c.args in
     let l = drop a.self.at (bits_in a.s.now) in
-    record { told = simp (lt-leb 16 (length l) (omega (arith, length_left a.s.now a.self.at))); onward = tt; summed = tt; }
+    record { told = simp (lt-leb 16 (length l) (omega (arith, length_left a.s.now a.self.at))); onward = tt; summed = tt }
 
 pub overflow_add-n : goal.overflow_add-n
 overflow_add-n c = omega (arith, bytes c)
@@ -56,4 +56,4 @@ unfolding read_plain
 returns c = let a = c.args in
     let l = bits_in a.s.now in
     let b = bytes (goal.at.returns c).After-after in
-    let n = length_left a.s.now a.self.at in record { told = rw (c.raised.ensures.0 15 refl, b.0, b.1, le-leb 16 (length (drop a.self.at l)) (omega arith), drop-drop 16 a.self.at l); onward = omega (arith, c.raised.ensures.1); summed = refl; }
+    let n = length_left a.s.now a.self.at in record { told = rw (c.raised.ensures.0 15 refl, b.0, b.1, le-leb 16 (length (drop a.self.at l)) (omega arith), drop-drop 16 a.self.at l); onward = omega (arith, c.raised.ensures.1); summed = refl }
