@@ -1,7 +1,6 @@
 -- Showing a field of a record, and starting a walk over its fields (01, Header fields and the patient identifier; 01, Refusal numbers).
 use Rattle.std.specs.Prelude.{ℕ, ◌+◌, cond, List}
 use Rattle.wire.specs.Numbers.{part}
-use Rattle.header.specs.declared.Field.{Field}
 use Rattle.header.specs.declared.Step.{Step}
 use Rattle.header.specs.declared.Step.TheVariants.{Found, End}
 use Rattle.header.specs.Fields.{fields_from, with_tag, occurring, size_of}

@@ -1,20 +1,17 @@
 -- The part from the field's place on is lent back; the place lies within the record (`place_inside`).
 use mathlib.Core.Path.{◌≡◌, sym, ap, ◌∙◌}
-use Prim.Native.Nat.{◌+◌, ◌≤◌}
 use native.Mathlib.Omega.{arith}
-use lib.ListN.{length}
 use Rattle.fields.specs.declared.Place.TheVariants.{At}
 use Rattle.fields.specs.Lookup.{field_place, part_bytes}
 use Rattle.fields.specs.Recording.{field_of}
 use Rattle.fields.proofs.Laws.{place_inside}
-use borrow.Author.Rules.{rules}
 use Rattle.fields.proofs.field_of.Goals as goal
 use Rattle.fields.proofs.field_of.Goals.{In-At}
 
 -- in the arm `At(start, size)`: that is the field's place
 place : (c : In-At) → let a = c.args in
-    field_place a.rec.now a.tag 1 ≡ At c.start-1.given.0.0 c.start-1.given.0.1.0
-place c = sym c.opened_place.ensures ∙ c.start-1.given.1
+    field_place a.rec.now a.tag 1 ≡ At c.in-At.start c.in-At.size
+place c = sym c.in-At.ensures
 
 pub overflow_add-start : goal.overflow_add-start
 overflow_add-start c = let a = c.args in let h = place_inside a.rec.now a.tag 1 _ _ (place c) in omega arith
@@ -25,5 +22,5 @@ returns-in-At c = c.part_of.ensures ∙ sym (ap (part_bytes c.args.rec.now) (pla
 
 pub returns-in-Refused : goal.returns-in-Refused
 unfolding field_of
-returns-in-Refused c = let none = sym c.opened_place.ensures ∙ c.enum_told-1.given.1 in
+returns-in-Refused c = let none = sym c.in-Refused.ensures in
     sym (ap (part_bytes c.args.rec.now) none)

@@ -1,9 +1,8 @@
 -- A refused record gives its number; an opened one gives the field's place.
-use mathlib.Core.Path.{◌≡◌, sym, ap, ◌∙◌}
+use mathlib.Core.Path.{sym, ap, ◌∙◌}
 use Rattle.fields.specs.declared.Place.TheVariants.{Refused}
 use Rattle.fields.specs.Lookup.{field_place}
 use Rattle.fields.proofs.Laws.{place_refused}
-use borrow.Author.Rules.{rules}
 use Rattle.fields.proofs.field_place.Goals as goal
 
 pub returns-then-refusal-ne0 : goal.returns-then-refusal-ne0

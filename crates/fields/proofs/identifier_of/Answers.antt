@@ -1,12 +1,11 @@
 -- All bytes of the field but the last are lent back; of none, none.
 use Prim.Native.Nat.{ℕ, ◌-◌}
-use mathlib.Core.Path.{◌≡◌, sym, ap, ◌∙◌}
+use mathlib.Core.Path.{sym, ap, ◌∙◌}
 use mathlib.Core.List.{List}
 use native.Mathlib.Omega.{arith}
 use lib.ListN.{length, take}
 use lib.Seq.{take_all, length-take-le}
 use Rattle.fields.specs.Recording.{identifier_of}
-use borrow.Author.Rules.{rules}
 use Rattle.fields.proofs.identifier_of.Goals as goal
 
 -- all but the last of a list

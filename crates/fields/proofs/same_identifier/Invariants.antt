@@ -1,12 +1,8 @@
 -- Bytes are compared from the first on: as long as they agree, what is left decides; at the first that differ they are not the same.
-use Prim.Native.Nat.{◌+◌, ◌-◌, ◌≤◌}
-use mathlib.Core.Path.{◌≡◌, refl, sym, ◌∙◌}
-use native.Mathlib.Numerals.{add-one}
-use native.Mathlib.Omega.{arith}
+use Prim.Native.Nat.{◌-◌, ◌≤◌}
+use mathlib.Core.Path.{◌≡◌}
 use lib.ListN.{length, drop}
-use borrow.Author.Rules.{rules}
 use Rattle.fields.specs.Identifier.{same}
-use Rattle.fields.proofs.Laws.{same_turn, same_differ, same_end, same_lengths}
 use Rattle.fields.proofs.same_identifier.Given as goal
 
 abbrev pub invariant-loop-i : goal.invariant-loop-i

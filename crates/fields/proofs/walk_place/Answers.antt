@@ -4,7 +4,6 @@ use Rattle.pointers.specs.Pointers.{start_of, length_of}
 use Rattle.fields.specs.declared.Place.TheVariants.{At, Refused}
 use Rattle.fields.specs.Lookup.{walk_place}
 use Rattle.fields.proofs.Laws.{place_opened, place_refused}
-use borrow.Author.Rules.{rules}
 use Rattle.fields.proofs.walk_place.Goals as goal
 
 pub returns-then-refusal-ne0 : goal.returns-then-refusal-ne0
