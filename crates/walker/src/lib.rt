@@ -100,8 +100,8 @@ fn place_after(s: &[u8], at: usize) -> usize
 pub fn start<'a>(rec: &'a [u8], refusal: &mut u8) -> Walker<'a>
     ensures { (refusal.new ≡ refusal_of (walk_place rec.now))
         × (result.section.now ≡ part_bytes rec.now (walk_place rec.now))
-        × (result.section.ptr.0 ≡ rec.entry.ref_ptr.0)
-        × (result.section.ptr.1 ≡ part_start (walk_place rec.now) + rec.entry.ref_ptr.1)
+        × (result.section.ref_ptr.0 ≡ rec.entry.ref_ptr.0)
+        × (result.section.ref_ptr.1 ≡ part_start (walk_place rec.now) + rec.entry.ref_ptr.1)
         × (result.at ≡ data_at) }
 {
     let section = section_one(rec, refusal);
@@ -113,8 +113,8 @@ pub fn step<'a>(w: Walker<'a>) -> Shown<'a>
     ensures { (result.more ≡ shown_more (step_at w.entry.section.now w.entry.at))
         × (result.tag ≡ shown_tag (step_at w.entry.section.now w.entry.at))
         × (result.bytes.now ≡ shown_bytes w.entry.section.now (step_at w.entry.section.now w.entry.at))
-        × (result.bytes.ptr.0 ≡ w.entry.section.ptr.0)
-        × (result.bytes.ptr.1 ≡ shown_start (step_at w.entry.section.now w.entry.at) + w.entry.section.ptr.1) }
+        × (result.bytes.ref_ptr.0 ≡ w.entry.section.ref_ptr.0)
+        × (result.bytes.ref_ptr.1 ≡ shown_start (step_at w.entry.section.now w.entry.at) + w.entry.section.ref_ptr.1) }
 {
     let f = facts_at(w.section, w.at);
     let bytes = bytes_at(w.section, w.at);

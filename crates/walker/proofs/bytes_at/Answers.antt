@@ -2,7 +2,6 @@
 use Prim.Native.Nat.{◌+◌}
 use mathlib.Core.Path.{refl, sym, ap, ◌∙◌}
 use native.Mathlib.Nat.{zero-add}
-use borrow.Author.Rules.{rules}
 use Rattle.header.specs.declared.Step.{Step}
 use Rattle.header.proofs.Laws.{Whole, step_found}
 use Rattle.header.specs.Fields.{shown_bytes}
@@ -13,10 +12,10 @@ use Rattle.walker.proofs.bytes_at.Goals.{In-Found}
 -- in the arm of a field: it lies within the section
 inside : (c : In-Found)
     → Whole c.args.s.now c.args.at
-    c.f-1.given.0.0
+    c.in-Found.f
 inside c =
     step_found c.args.s.now c.args.at _
-    (sym c.step_at.ensures ∙ c.f-1.given.1)
+    (sym c.in-Found.ensures)
 
 pub slice_bounds-result-count : goal.slice_bounds-result-count
 slice_bounds-result-count c = (inside c).order
@@ -29,10 +28,10 @@ slice_bounds-result-end c = (inside c).end
 
 pub returns-in-Found : goal.returns-in-Found
 returns-in-Found c = let a = c.args in
-    let h = sym c.step_at.ensures ∙ c.f-1.given.1 in
+    let h = sym c.in-Found.ensures in
     (sym (ap (shown_bytes a.s.now) h), refl, sym (ap (λ (p : Step). shown_start p + a.s.ref_ptr.1) h))
 
 pub returns-in-End : goal.returns-in-End
 returns-in-End c = let a = c.args in
-    let h = sym c.step_at.ensures ∙ c.enum_told-1.given.1 in
+    let h = sym c.in-End.ensures in
     (sym (ap (shown_bytes a.s.now) h), refl, sym (ap (λ (p : Step). shown_start p + a.s.ref_ptr.1) h ∙ zero-add _))
