@@ -2,7 +2,6 @@
 use Prim.Native.Nat.{ℕ}
 use mathlib.Core.Path.{sym, ap}
 use Rattle.packing.specs.Packing.{bytes_for}
-use borrow.Author.Rules.{rules}
 use Rattle.encode.proofs.answer_for.Goals as goal
 
 pub returns : goal.returns

@@ -5,7 +5,6 @@ use native.Mathlib.Omega.{arith}
 use native.Mathlib.Nat.{mul-le-mul_right}
 use Rattle.wire.proofs.Tests.{kept, broken}
 use Rattle.encode.specs.Encoding.{asked_right, tables_given_right}
-use borrow.Author.Rules.{rules}
 use Rattle.encode.proofs.Asked.{refused_asked, refused_given, refused_work, refused_none, asked_most}
 use Rattle.encode.proofs.asked_refusal.Goals as goal
 use Rattle.encode.proofs.asked_refusal.Goals.{Else-not-given_right}

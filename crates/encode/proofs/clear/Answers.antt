@@ -1,9 +1,9 @@
-use Prim.Native.Nat.{ℕ, ◌-◌, ◌≤◌}
+use Prim.Native.Nat.{ℕ}
 use mathlib.Core.Path.{◌≡◌, refl, sym, ap, ◌∙◌}
 use mathlib.Core.List.{List, [], ◌∷◌, ◌++◌}
 use native.Mathlib.Omega.{arith}
 use native.Mathlib.Numerals.{add-one}
-use lib.ListN.{length, take, replicate, length-set, replicate-append-replicate}
+use lib.ListN.{length, replicate, length-set, replicate-append-replicate}
 use lib.Seq.{take-length, take-suc-set}
 use Rattle.encode.proofs.clear.Goals as goal
 
@@ -15,12 +15,12 @@ loop-k-smaller c = simp length-set (omega arith)
 
 pub loop-k-preserved : goal.loop-k-preserved
 loop-k-preserved c = let l = c.loop-k in (
-      simp length-set (omega arith),
-      simp length-set l.invariant.1,
-      rw (add-one l.k) (take-suc-set l.work l.k 0 (omega arith)
-          ∙ ap (λ (xs : List ℕ). xs ++ (0 ∷ [])) l.invariant.2
-          ∙ replicate-append-replicate {A = ℕ} l.k 1 0 ∙ ap (λ (n : ℕ). replicate n 0) (add-one l.k)),
-    )
+  simp length-set (omega arith),
+  simp length-set l.invariant.1,
+  rw (add-one l.k) (take-suc-set l.work l.k 0 (omega arith)
+      ∙ ap (λ (xs : List ℕ). xs ++ (0 ∷ [])) l.invariant.2
+      ∙ replicate-append-replicate {A = ℕ} l.k 1 0 ∙ ap (λ (n : ℕ). replicate n 0) (add-one l.k)),
+)
 
 pub shape_of-work : goal.shape_of-work
 shape_of-work c = c.loop-k.invariant.1

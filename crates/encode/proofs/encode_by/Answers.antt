@@ -3,7 +3,6 @@ use Prim.Native.Nat.{ℕ}
 use mathlib.Core.Path.{sym, ap, ◌∙◌}
 use lib.ListN.{replicate}
 use Rattle.encode.specs.InnerEncode.{cleared_if}
-use borrow.Author.Rules.{rules}
 use Rattle.encode.proofs.Asked.{cleared_some}
 use Rattle.encode.proofs.encode_by.Goals as goal
 
@@ -14,7 +13,7 @@ returns-then-tab-eq0 c = let a = c.args in
     (w.ensures.0, w.ensures.1 none ∙ sym (ap (λ (n : ℕ). cleared_if n a.work.now) none))
 
 pub returns : goal.returns
-returns c = 
+returns c =
     let w = c.write_stream-answer in
     let a = c.args in
     let zeros = c.clear.ensures ∙ ap (λ (n : ℕ). replicate n 0) w.auto.work in

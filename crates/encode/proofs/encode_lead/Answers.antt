@@ -42,7 +42,7 @@ pub table_count-requires : goal.table_count-requires
 table_count-requires c = (here (goal.at.table_count-requires c).Else-refusal-ne0).1
 
 pub encode_by-requires : goal.encode_by-requires
-encode_by-requires c = 
+encode_by-requires c =
     let s = c.args.section2.now in
     let t = c.table_count.ensures.0 in
     let w = here (goal.at.encode_by-requires c).Else-refusal-ne0 in

@@ -1,6 +1,5 @@
 -- By how many bits were found.
 use native.Mathlib.Omega.{arith}
-use borrow.Author.Rules.{rules}
 use Rattle.encode.proofs.Found.{found_none, found_long, found_full, found_fits}
 use Rattle.encode.proofs.found_refusal.Goals as goal
 

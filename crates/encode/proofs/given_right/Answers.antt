@@ -1,6 +1,5 @@
 -- Without Section 2 nothing can be wrong.
 use mathlib.Core.Path.{sym, ◌∙◌}
-use borrow.Author.Rules.{rules}
 use Rattle.encode.proofs.Asked.{given_none, given_some}
 use Rattle.encode.proofs.given_right.Goals as goal
 

@@ -3,7 +3,6 @@ use mathlib.Core.Path.{refl, sym, ap, ◌∙◌}
 use mathlib.Core.Logic.{inr}
 use native.Mathlib.Omega.{arith}
 use Rattle.encode.specs.InnerEncode.{held_for}
-use borrow.Author.Rules.{rules}
 use Rattle.compiled.proofs.Laws.{ready_held}
 use Rattle.encode.proofs.Asked.{tables_none, given_some, tables_some, held_some}
 use Rattle.encode.proofs.hold_tables.Goals as goal
@@ -13,7 +12,7 @@ returns-then-section2-eq0 c = let s = c.args.section2.now in
     (omega arith, inr (tables_none s c.if-section2-eq0.true, refl), sym (ap held_for c.if-section2-eq0.true))
 
 pub compile-requires : goal.compile-requires
-compile-requires c = 
+compile-requires c =
     (c.requires.0, omega arith, sym (given_some c.args.section2.now c.if-section2-eq0.false) ∙ c.requires.1)
 
 pub returns : goal.returns

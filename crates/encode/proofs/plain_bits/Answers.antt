@@ -1,10 +1,8 @@
-use Prim.Native.Nat.{◌-◌, ◌≤◌}
 use mathlib.Core.Logic.{inl, inr}
 use native.Mathlib.Omega.{arith}
-use lib.ListN.{length}
 use Rattle.samples.specs.Differences.{differences}
 use Rattle.samples.proofs.Laws.{length_differences}
-use Rattle.encode.proofs.Plain.{Inside, inside_more, plain_sized, plain_unsized}
+use Rattle.encode.proofs.Plain.{inside_more, plain_sized, plain_unsized}
 use Rattle.encode.proofs.plain_bits.Goals as goal
 
 pub loop-i-init : goal.loop-i-init

@@ -1,11 +1,8 @@
 -- The values before i have 16 bits.
 use Prim.Native.Nat.{◌-◌, ◌≤◌}
-use mathlib.Core.Logic.{inl, inr}
-use native.Mathlib.Omega.{arith}
 use lib.ListN.{length}
 use Rattle.samples.specs.Differences.{differences}
-use Rattle.samples.proofs.Laws.{length_differences}
-use Rattle.encode.proofs.Plain.{Inside, inside_more, plain_sized, plain_unsized}
+use Rattle.encode.proofs.Plain.{Inside}
 use Rattle.encode.proofs.plain_bits.Given as goal
 
 abbrev pub invariant-loop-i : goal.invariant-loop-i

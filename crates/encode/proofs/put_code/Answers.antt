@@ -1,5 +1,5 @@
 -- The prefix is put, then the remainder's bits.
-use Prim.Native.Nat.{ℕ, ◌%◌, ◌^◌}
+use Prim.Native.Nat.{ℕ, ◌%◌}
 use mathlib.Core.Path.{◌≡◌, sym, ap, ◌∙◌, subst}
 use mathlib.Core.List.{List, ◌++◌, append_assoc}
 use native.Mathlib.Nat.{mod-lt}
@@ -13,7 +13,6 @@ use Rattle.packing.specs.InnerSink.{Holds}
 use Rattle.shortest.specs.InnerRule.{twos}
 use Rattle.shortest.proofs.Forms.{twos_lower}
 use Rattle.encode.proofs.Steps.{code_prefix, holds_some, rest_on}
-use borrow.Author.Rules.{rules}
 use Rattle.encode.proofs.put_code.Goals as goal
 use Rattle.encode.proofs.put_code.Goals.{After-put-p}
 
@@ -34,7 +33,7 @@ pub nonzero_rem-v : goal.nonzero_rem-v
 nonzero_rem-v c = rw c.power.ensures (pow_pos c.args.f.remainder)
 
 pub put-requires : goal.put-requires
-put-requires c = 
+put-requires c =
     let p = c.put-p in
     let f = c.args.f in
     let h = held (goal.at.put-requires c).After-put-p in (
@@ -46,7 +45,7 @@ put-requires c =
     )
 
 pub returns : goal.returns
-returns c = 
+returns c =
     let p = c.put-p in
     let q = c.put in
     let power = c.power in

@@ -1,11 +1,8 @@
-use Prim.Native.Nat.{◌-◌, ◌*◌, ◌≤◌}
-use mathlib.Core.Path.{◌≡◌, refl, ◌∙◌}
-use mathlib.Core.List.{◌++◌}
+use mathlib.Core.Path.{refl, ◌∙◌}
 use native.Mathlib.Omega.{arith}
-use lib.ListN.{length, take, drop}
+use lib.ListN.{length}
 use Rattle.samples.specs.Differences.{differences}
 use Rattle.samples.proofs.Laws.{length_differences}
-use Rattle.shortest.specs.InnerRule.{plain_bytes}
 use Rattle.encode.proofs.Plain.{plain_put, plain_start, plain_all}
 use Rattle.encode.proofs.put_plain.Goals as goal
 
@@ -14,7 +11,7 @@ loop-i-init c = let a = c.args in
     (omega arith, refl, plain_start (differences a.order a.xs.now) a.out.now)
 
 pub overflow_mul-i : goal.overflow_mul-i
-overflow_mul-i c =  omega (arith, c.requires, c.well-formed)
+overflow_mul-i c = omega (arith, c.requires)
 
 pub put16-requires : goal.put16-requires
 put16-requires c = omega (arith, c.requires, c.loop-i.invariant.1)

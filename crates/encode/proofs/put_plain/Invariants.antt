@@ -1,13 +1,10 @@
 -- The bytes of the values before i are at the front.
 use Prim.Native.Nat.{◌-◌, ◌*◌, ◌≤◌}
-use mathlib.Core.Path.{◌≡◌, refl, ◌∙◌}
+use mathlib.Core.Path.{◌≡◌}
 use mathlib.Core.List.{◌++◌}
-use native.Mathlib.Omega.{arith}
 use lib.ListN.{length, take, drop}
 use Rattle.samples.specs.Differences.{differences}
-use Rattle.samples.proofs.Laws.{length_differences}
 use Rattle.shortest.specs.InnerRule.{plain_bytes}
-use Rattle.encode.proofs.Plain.{plain_put, plain_start, plain_all}
 use Rattle.encode.proofs.put_plain.Given as goal
 
 abbrev pub invariant-loop-i : goal.invariant-loop-i

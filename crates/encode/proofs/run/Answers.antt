@@ -3,9 +3,7 @@ use mathlib.Core.Path.{◌∙◌}
 use native.Mathlib.Omega.{arith}
 use lib.ListN.{length}
 use Rattle.compiled.proofs.Laws.{FineForm}
-use Rattle.samples.specs.Differences.{differences}
 use Rattle.samples.proofs.Laws.{length_differences}
-use Rattle.encode.specs.InnerEncode.{PartWrittenBy}
 use Rattle.encode.proofs.Steps.{next_table, next_sink, next_inside, next_place, next_fine, next_most, going_value, going_switch, place_room}
 use Rattle.encode.proofs.run.Goals as goal
 use Rattle.encode.proofs.run.Goals.{After-form_at-f, In-loop-left}
@@ -50,13 +48,13 @@ pub loop-left-init : goal.loop-left-init
 loop-left-init c = (c.requires.part_written_by.0, omega arith)
 
 pub overflow_mul-k : goal.overflow_mul-k
-overflow_mul-k c = omega (arith, c.well-formed, room c)
+overflow_mul-k c = omega (arith, room c)
 
 pub overflow_sub-k : goal.overflow_sub-k
 overflow_sub-k c = (table c).0
 
 pub overflow_add-k : goal.overflow_add-k
-overflow_add-k c = omega (arith, c.well-formed, room c)
+overflow_add-k c = omega (arith, room c)
 
 pub bounds-work-i : goal.bounds-work-i
 bounds-work-i c = room (goal.at.bounds-work-i c).In-loop-left
@@ -69,16 +67,16 @@ pub overflow_sub-t : goal.overflow_sub-t
 overflow_sub-t c = (table (goal.at.overflow_sub-t c).In-loop-left).0
 
 pub form_at-f-requires : goal.form_at-f-requires
-form_at-f-requires c = 
+form_at-f-requires c =
     let r = c.requires.compiled_count.0.1 in
     let l = c.loop-left in
     (r.room, omega (arith, table (goal.at.form_at-f-requires c).In-loop-left), next_place c.requires.compiled_count.0 l.invariant.0 c.requires.planned c.requires.compiled_count.2 (omega arith))
 
 pub put_code-sink-requires : goal.put_code-sink-requires
-put_code-sink-requires c = 
+put_code-sink-requires c =
     let l = c.loop-left in
     let f = fine (goal.at.put_code-sink-requires c).After-form_at-f in
-    let k = next_sink c.requires.compiled_count.0 l.invariant.0 in record { prefix_bound = (f.most, f.rest, f.word, sample (goal.at.put_code-sink-requires c).In-loop-left); part_bound = (k.0, k.1, omega (arith, k.2, most (goal.at.put_code-sink-requires c).After-form_at-f, c.requires.compiled_count.3, l.invariant.0.same)); }
+    let k = next_sink c.requires.compiled_count.0 l.invariant.0 in record { prefix_bound = (f.most, f.rest, f.word, sample (goal.at.put_code-sink-requires c).In-loop-left); part_bound = (k.0, k.1, omega (arith, k.2, most (goal.at.put_code-sink-requires c).After-form_at-f, c.requires.compiled_count.3, l.invariant.0.same)) }
 
 pub overflow_add-left : goal.overflow_add-left
 overflow_add-left c = let f = fine (goal.at.overflow_add-left c).After-form_at-f in omega (arith, f.most, f.rest)
@@ -99,11 +97,11 @@ returns-then-f-ne0 c = let f = c.form_at-f in
     )
 
 pub overflow_add-i : goal.overflow_add-i
-overflow_add-i c = 
-    omega (arith, c.well-formed, sample (goal.at.overflow_add-i c).In-loop-left)
+overflow_add-i c =
+    omega (arith, sample (goal.at.overflow_add-i c).In-loop-left)
 
 pub loop-left-smaller : goal.loop-left-smaller
-loop-left-smaller c =  omega (arith, (fine (goal.at.loop-left-smaller c).After-form_at-f).some, most (goal.at.loop-left-smaller c).After-form_at-f)
+loop-left-smaller c = omega (arith, (fine (goal.at.loop-left-smaller c).After-form_at-f).some, most (goal.at.loop-left-smaller c).After-form_at-f)
 
 pub loop-left-preserved : goal.loop-left-preserved
 loop-left-preserved c = let f = c.form_at-f in

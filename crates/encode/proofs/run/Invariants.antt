@@ -1,13 +1,7 @@
 -- The bits left fall with each code of the table.
-use Prim.Native.Nat.{◌+◌, ◌-◌, ◌*◌, ◌≤◌, ◌<◌}
-use mathlib.Core.Path.{◌∙◌}
-use native.Mathlib.Omega.{arith}
-use lib.ListN.{length}
-use Rattle.compiled.proofs.Laws.{FineForm}
+use Prim.Native.Nat.{◌≤◌}
 use Rattle.samples.specs.Differences.{differences}
-use Rattle.samples.proofs.Laws.{length_differences}
 use Rattle.encode.specs.InnerEncode.{PartWrittenBy}
-use Rattle.encode.proofs.Steps.{next_table, next_sink, next_inside, next_place, next_fine, next_most, going_value, going_switch, place_room}
 use Rattle.encode.proofs.run.Given as goal
 
 abbrev pub invariant-loop-left : goal.invariant-loop-left

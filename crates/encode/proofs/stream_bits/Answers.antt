@@ -6,9 +6,8 @@ use Rattle.tables.specs.declared.Structure.{Structure}
 use Rattle.samples.specs.Differences.{differences}
 use Rattle.compiled.proofs.Laws.{held_ready}
 use Rattle.encode.specs.InnerEncode.{Sized}
-use borrow.Author.Rules.{rules}
 use Rattle.encode.proofs.Found.{held_none, plan_sized}
-use Rattle.encode.proofs.stream_bits_lem.Goals as goal
+use Rattle.encode.proofs.stream_bits.Goals as goal
 
 pub returns-then-tab-eq0 : goal.returns-then-tab-eq0
 returns-then-tab-eq0 c = let a = c.args in
@@ -21,7 +20,7 @@ returns-then-tab-eq0 c = let a = c.args in
     )
 
 pub plan-requires : goal.plan-requires
-plan-requires c = 
+plan-requires c =
     let h = c.requires.0 in
     ((h.0, held_ready h.0 c.args.tab.now h.1 c.if-tab-eq0.false, h.2), c.requires.1, c.requires.2)
 

@@ -1,9 +1,6 @@
 -- The bits left fall with each table that the stream runs through.
-use mathlib.Core.Path.{refl, ◌∙◌}
-use native.Mathlib.Omega.{arith}
 use Rattle.samples.specs.Differences.{differences}
 use Rattle.encode.specs.InnerEncode.{PartWrittenBy}
-use Rattle.encode.proofs.Steps.{going_start, next_sink, going_then, going_end}
 use Rattle.encode.proofs.walk.Given as goal
 
 abbrev pub invariant-loop-gone : goal.invariant-loop-gone

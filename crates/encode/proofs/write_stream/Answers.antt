@@ -5,7 +5,6 @@ use native.Mathlib.Omega.{arith}
 use lib.ListN.{length}
 use Rattle.packing.specs.Packing.{bytes_for}
 use Rattle.samples.specs.Differences.{differences}
-use borrow.Author.Rules.{rules}
 use Rattle.encode.proofs.Found.{fits_found, written_refused, written_put}
 use Rattle.encode.proofs.write_stream.Goals as goal
 use Rattle.encode.proofs.write_stream.Goals.{Else-refusal-ne0}
@@ -31,16 +30,16 @@ returns-then-refusal-ne0 c = let a = c.args in
     )
 
 pub put_stream-requires : goal.put_stream-requires
-put_stream-requires c = 
+put_stream-requires c =
     let s = c.stream_bits-bits in
     let w = fits (goal.at.put_stream-requires c).Else-refusal-ne0 in
-    record { compiled_or_none_count = (c.requires.0, omega (arith, c.requires.2, s.auto.work), w.0, w.1); sized = s.ensures.0; }
+    record { compiled_or_none_count = (c.requires.0, omega (arith, c.requires.2, s.auto.work), w.0, w.1); sized = s.ensures.0 }
 
 pub answer_for-requires : goal.answer_for-requires
 answer_for-requires c = (fits (goal.at.answer_for-requires c).Else-refusal-ne0).0
 
 pub returns : goal.returns
-returns c = 
+returns c =
     let f = c.found_refusal-refusal in
     let s = c.stream_bits-bits in
     let a = c.args in

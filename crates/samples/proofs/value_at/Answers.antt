@@ -12,7 +12,7 @@ use Rattle.samples.proofs.value_at.Goals as goal
 pub returns : goal.returns
 returns c = let a = c.args in
     let xs = a.xs.now in
-    let told = c.Stored-of.ensures in
+    let told = c.stored_of.ensures in
     let own = c.earlier-x in
     let last = c.earlier-last in
     let other = c.earlier-other in

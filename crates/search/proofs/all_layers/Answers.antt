@@ -1,18 +1,14 @@
 use Prim.Native.Nat.{ℕ, ◌+◌, ◌-◌, ◌*◌, ◌≤◌, ◌<◌}
 use mathlib.Core.Path.{◌≡◌, refl, ◌∙◌, subst}
-use mathlib.Core.List.{List}
 use native.Mathlib.Omega.{arith}
 use borrow.Rule.Slice.PartMut.{put_mid}
 use lib.ListN.{length, drop, replicate, length-take, length-drop, get_or-replicate}
 use Rattle.samples.specs.Differences.{differences}
 use Rattle.samples.proofs.Laws.{length_differences}
-use Rattle.tables.specs.declared.Structure.{Structure}
-use Rattle.compiled.specs.InnerForm.{Compiled}
 use Rattle.paths.specs.InnerPaths.{Exact}
 use Rattle.shortest.specs.InnerRule.{rule}
-use Rattle.search.specs.InnerSearch.{cap, at, Trail, Known, NineCosts}
+use Rattle.search.specs.InnerSearch.{cap, at}
 use Rattle.search.proofs.Layers.{zeros_exact, part_room, put_in_lem, put_out, step_exact, step_trail}
-use borrow.Author.Rules.{rules}
 use Rattle.search.proofs.all_layers.Goals as goal
 
 pub loop-i-init : goal.loop-i-init
@@ -30,38 +26,38 @@ loop-i-init c = let a = c.args in
     )
 
 pub overflow_mul-from : goal.overflow_mul-from
-overflow_mul-from c = 
+overflow_mul-from c =
     let l = c.loop-i in
     let r = part_room l.i c.args.n (length c.args.xs.now) (length c.args.work.now) (omega arith) l.invariant.0
     c.requires.2 in
-    omega (arith, l.invariant.1, c.well-formed, r)
+    omega (arith, l.invariant.1, r)
 
 pub overflow_add-to : goal.overflow_add-to
-overflow_add-to c = 
+overflow_add-to c =
     let l = c.loop-i in
     let r = part_room l.i c.args.n (length c.args.xs.now) (length c.args.work.now) (omega arith) l.invariant.0
     c.requires.2 in
-    omega (arith, l.invariant.1, c.well-formed, r)
+    omega (arith, l.invariant.1, r)
 
 pub slice_bounds-layer-end : goal.slice_bounds-layer-end
 slice_bounds-layer-end c = omega (arith, c.loop-i.invariant.3.room)
 
 pub slice_bounds-layer-end-in-loop-i : goal.slice_bounds-layer-end-in-loop-i
-slice_bounds-layer-end-in-loop-i c = 
+slice_bounds-layer-end-in-loop-i c =
     let l = c.loop-i in
     let r = part_room l.i c.args.n (length c.args.xs.now) (length c.args.work.now) (omega arith) l.invariant.0
     c.requires.2 in
-    omega (arith, l.invariant.1, c.well-formed, r)
+    omega (arith, l.invariant.1, r)
 
 pub layer-next-requires : goal.layer-next-requires
-layer-next-requires c = 
+layer-next-requires c =
     let l = c.loop-i in
     let r = part_room l.i c.args.n (length c.args.xs.now) (length c.args.work.now) (omega arith) l.invariant.0
     c.requires.2 in
     (c.requires.0, l.invariant.3, simp (length-take, length-drop) (omega (arith, l.invariant.1, r)), c.requires.1)
 
 pub loop-i-preserved : goal.loop-i-preserved
-loop-i-preserved c = 
+loop-i-preserved c =
     let l = c.loop-i in
     let r = part_room l.i c.args.n (length c.args.xs.now) (length c.args.work.now) (omega arith) l.invariant.0
     c.requires.2 in

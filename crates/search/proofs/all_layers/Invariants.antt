@@ -1,19 +1,14 @@
 -- From value i on the costs are exact, and the work space has the way.
-use Prim.Native.Nat.{ℕ, ◌+◌, ◌-◌, ◌*◌, ◌≤◌, ◌<◌}
-use mathlib.Core.Path.{◌≡◌, refl, ◌∙◌, subst}
+use Prim.Native.Nat.{◌≤◌}
+use mathlib.Core.Path.{◌≡◌}
 use mathlib.Core.List.{List}
-use native.Mathlib.Omega.{arith}
-use borrow.Rule.Slice.PartMut.{put_mid}
-use lib.ListN.{length, drop, replicate, length-take, length-drop, get_or-replicate}
+use lib.ListN.{length, drop}
 use Rattle.samples.specs.Differences.{differences}
-use Rattle.samples.proofs.Laws.{length_differences}
 use Rattle.tables.specs.declared.Structure.{Structure}
 use Rattle.compiled.specs.InnerForm.{Compiled}
 use Rattle.paths.specs.InnerPaths.{Exact}
 use Rattle.shortest.specs.InnerRule.{rule}
 use Rattle.search.specs.InnerSearch.{cap, at, Trail, Known, NineCosts}
-use Rattle.search.proofs.Layers.{zeros_exact, part_room, put_in_lem, put_out, step_exact, step_trail}
-use borrow.Author.Rules.{rules}
 use Rattle.search.proofs.all_layers.Given as goal
 
 abbrev pub invariant-loop-i : goal.invariant-loop-i

@@ -1,11 +1,9 @@
-use Prim.Native.Nat.{◌-◌, ◌≤◌}
-use mathlib.Core.Path.{◌≡◌, refl, sym, ◌∙◌}
-use mathlib.Core.Logic.{⊎_elim}
+use mathlib.Core.Path.{refl, sym, ◌∙◌}
 use native.Mathlib.Omega.{arith}
 use native.Mathlib.Nat.{le_antisymm}
-use Rattle.search.specs.InnerSearch.{count_of, at, Picked}
 use Rattle.search.proofs.Choices.{picked_start, picked_skip, picked_more}
 use Rattle.search.proofs.choose.Goals as goal
+use Rattle.search.proofs.choose.Goals.{then-leap-want, else-leap-want}
 
 pub count-m-requires : goal.count-m-requires
 count-m-requires c = c.requires.0
@@ -28,10 +26,10 @@ loop-k-preserved c = let i = c.loop-k.invariant in
       i.1,
       i.2,
       i.3,
-      ⊎_elim
-          (λ w. rw w.2 (picked_more _ _ _ _ _ _ _ (omega arith) (sym e ∙ w.0.taken ∙ i.3) w.1.ensures i.4))
-          (λ w. rw w.1 (picked_skip _ _ _ _ _ _ (λ q. w.0.left (e ∙ q ∙ sym i.3)) i.4))
-          c.if-leap-want.branch,
+      elim c.if-leap-want.branch [
+        | then-leap-want w ↦ rw w.best-is (picked_more _ _ _ _ _ _ _ (omega arith) (sym e ∙ w.if-leap-want.true ∙ i.3) w.smaller-best.ensures i.4)
+        | else-leap-want w ↦ rw w.best-is (picked_skip _ _ _ _ _ _ (λ q. w.if-leap-want.false (e ∙ q ∙ sym i.3)) i.4)
+      ],
     )
 
 pub returns : goal.returns

@@ -1,11 +1,7 @@
 -- With k structures passed the choice among them and the start is made.
 use Prim.Native.Nat.{◌-◌, ◌≤◌}
-use mathlib.Core.Path.{◌≡◌, refl, sym, ◌∙◌}
-use mathlib.Core.Logic.{⊎_elim}
-use native.Mathlib.Omega.{arith}
-use native.Mathlib.Nat.{le_antisymm}
+use mathlib.Core.Path.{◌≡◌}
 use Rattle.search.specs.InnerSearch.{count_of, at, Picked}
-use Rattle.search.proofs.Choices.{picked_start, picked_skip, picked_more}
 use Rattle.search.proofs.choose.Given as goal
 
 abbrev pub invariant-loop-k : goal.invariant-loop-k

@@ -3,7 +3,6 @@ use Prim.Native.Nat.{◌-◌, ◌*◌}
 use mathlib.Core.Path.{refl}
 use native.Mathlib.Omega.{arith}
 use Rattle.search.proofs.Laws.{count_most}
-use borrow.Author.Rules.{rules}
 use Rattle.search.proofs.count.Goals as goal
 
 pub bounds-tab-t : goal.bounds-tab-t

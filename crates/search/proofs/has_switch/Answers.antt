@@ -1,9 +1,6 @@
-use Prim.Native.Nat.{ℕ, ◌+◌, ◌-◌, ◌≤◌, ◌<◌}
-use mathlib.Core.Path.{◌≡◌}
 use native.Mathlib.Omega.{arith}
 use borrow.Author.Count.{below_more}
 use Rattle.wire.proofs.Laws.{unlike}
-use Rattle.search.specs.InnerSearch.{count_of, form_in}
 use Rattle.search.proofs.has_switch.Goals as goal
 
 pub loop-t-init : goal.loop-t-init
@@ -17,11 +14,11 @@ returns-then-switches c = λ z. unlike cc
 
 pub loop-t-preserved : goal.loop-t-preserved
 loop-t-preserved c = let l = c.loop-t in (
-      omega arith,
-      omega arith,
-      l.invariant.2,
-      below_more _ l.t l.invariant.3 (λ g. c.switches.ensures c.if-switches.false),
-    )
+  omega arith,
+  omega arith,
+  l.invariant.2,
+  below_more _ l.t l.invariant.3 (λ g. c.switches.ensures c.if-switches.false),
+)
 
 pub returns : goal.returns
 returns c = λ z u k h g. c.loop-t.invariant.3 u (omega arith) h k

@@ -1,9 +1,6 @@
 -- None of the tables before t has a switch.
 use Prim.Native.Nat.{ℕ, ◌+◌, ◌-◌, ◌≤◌, ◌<◌}
 use mathlib.Core.Path.{◌≡◌}
-use native.Mathlib.Omega.{arith}
-use borrow.Author.Count.{below_more}
-use Rattle.wire.proofs.Laws.{unlike}
 use Rattle.search.specs.InnerSearch.{count_of, form_in}
 use Rattle.search.proofs.has_switch.Given as goal
 

@@ -2,7 +2,6 @@
 use borrow.Author.Tests.{le-leb, lt-leb}
 use native.Mathlib.Omega.{arith}
 use Rattle.search.specs.InnerSearch.{cap}
-use borrow.Author.Rules.{rules}
 use Rattle.search.proofs.join.Goals as goal
 
 pub returns-then-a-gt-TOO_LONG : goal.returns-then-a-gt-TOO_LONG

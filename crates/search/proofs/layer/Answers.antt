@@ -6,7 +6,6 @@ use native.Mathlib.Omega.{arith}
 use lib.ListN.{get_or}
 use Rattle.search.specs.InnerSearch.{at}
 use Rattle.search.proofs.OneLayer.{layer_holds, place_valued, settled_first, picked_first}
-use borrow.Author.Rules.{rules}
 use Rattle.search.proofs.layer.Goals as goal
 
 pub mark-requires : goal.mark-requires

@@ -2,7 +2,6 @@
 use mathlib.Core.Path.{◌∙◌}
 use native.Mathlib.Omega.{arith}
 use Rattle.search.proofs.Laws.{count_most, fine_there, leap_none, leap_some}
-use borrow.Author.Rules.{rules}
 use Rattle.search.proofs.leap.Goals as goal
 
 pub form_at-f-requires : goal.form_at-f-requires
@@ -15,25 +14,25 @@ returns-then-f-eq0 c = let a = c.args in
     leap_none a.tab.now a.cur.now a.t a.k f.result f.ensures c.if-f-eq0.true
 
 pub overflow_add-f : goal.overflow_add-f
-overflow_add-f c = 
+overflow_add-f c =
     let p = c.requires in
     let f = fine_there p.0.0.1 c.args.t (p.0.1, p.0.2) c.args.k p.1 in
     rw c.form_at-f.ensures (omega (arith, f.most, f.rest))
 
 pub offset_bounds-cur-to : goal.offset_bounds-cur-to
-offset_bounds-cur-to c = 
+offset_bounds-cur-to c =
     let p = c.requires in
     let f = fine_there p.0.0.1 c.args.t (p.0.1, p.0.2) c.args.k p.1 in
     rw c.form_at-f.ensures (omega (arith, f.to))
 
 pub bounds-cur-to : goal.bounds-cur-to
-bounds-cur-to c = 
+bounds-cur-to c =
     let p = c.requires in
     let f = fine_there p.0.0.1 c.args.t (p.0.1, p.0.2) c.args.k p.1 in
     rw c.form_at-f.ensures (omega (arith, f.to))
 
 pub join-requires : goal.join-requires
-join-requires c = 
+join-requires c =
     let p = c.requires in
     let f = fine_there p.0.0.1 c.args.t (p.0.1, p.0.2) c.args.k p.1 in
     rw c.form_at-f.ensures (omega (arith, f.most, f.rest))

@@ -2,7 +2,6 @@
 use native.Mathlib.Omega.{arith}
 use Rattle.search.proofs.Laws.{place_most}
 use Rattle.search.proofs.Served.{known_more}
-use borrow.Author.Rules.{rules}
 use Rattle.search.proofs.learn.Goals as goal
 
 pub overflow_cast-known : goal.overflow_cast-known

@@ -1,9 +1,8 @@
-use Prim.Native.Nat.{◌+◌, ◌-◌, ◌≤◌}
-use mathlib.Core.Path.{◌≡◌}
+use Prim.Native.Nat.{◌-◌}
 use native.Mathlib.Omega.{arith}
-use lib.ListN.{length, length-set}
+use lib.ListN.{length-set}
 use Rattle.search.proofs.Laws.{place_most}
-use Rattle.search.proofs.Choices.{MarkedTo, marked_start, marked_more}
+use Rattle.search.proofs.Choices.{marked_start, marked_more}
 use Rattle.search.proofs.mark.Goals as goal
 
 pub loop-t-init : goal.loop-t-init

@@ -1,10 +1,8 @@
 -- The marks of the tables before t are picked, the others are as they were (`MarkedTo`).
 use Prim.Native.Nat.{◌+◌, ◌-◌, ◌≤◌}
 use mathlib.Core.Path.{◌≡◌}
-use native.Mathlib.Omega.{arith}
-use lib.ListN.{length, length-set}
-use Rattle.search.proofs.Laws.{place_most}
-use Rattle.search.proofs.Choices.{MarkedTo, marked_start, marked_more}
+use lib.ListN.{length}
+use Rattle.search.proofs.Choices.{MarkedTo}
 use Rattle.search.proofs.mark.Given as goal
 
 abbrev pub invariant-loop-t : goal.invariant-loop-t

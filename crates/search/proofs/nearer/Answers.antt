@@ -2,7 +2,6 @@
 use mathlib.Core.Logic.{inr, ⊎_elim}
 use native.Mathlib.Omega.{arith}
 use Rattle.search.proofs.Served.{served_first, served_shorter, served_longer, served_equal}
-use borrow.Author.Rules.{rules}
 use Rattle.search.proofs.nearer.Goals as goal
 
 pub returns-then-best-eq64 : goal.returns-then-best-eq64

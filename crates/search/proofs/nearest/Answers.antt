@@ -1,8 +1,8 @@
-use Prim.Native.Nat.{◌-◌, ◌≤◌, ◌<◌}
+use Prim.Native.Nat.{◌≤◌, ◌<◌}
 use mathlib.Core.Path.{◌≡◌, refl, sym, ◌∙◌}
 use mathlib.Core.Bool.{true, false}
 use mathlib.Core.List.{List}
-use mathlib.Core.Logic.{inl, ⊎_elim}
+use mathlib.Core.Logic.{inl}
 use native.Mathlib.Nat.{le_antisymm}
 use native.Mathlib.Omega.{arith}
 use Rattle.bits.specs.InnerRaised.{from_zero}
@@ -11,22 +11,23 @@ use Rattle.compiled.specs.InnerForm.{Compiled}
 use Rattle.paths.specs.InnerPaths.{Kind, gives}
 use Rattle.paths.proofs.Layer.{value_start}
 use Rattle.shortest.specs.InnerRule.{kind_of, structure_of, rule}
-use Rattle.search.specs.InnerSearch.{count_of, Place, Served}
+use Rattle.search.specs.InnerSearch.{count_of}
 use Rattle.search.proofs.Laws.{form_there, right_there, small_there}
 use Rattle.search.proofs.Served.{served_skip}
 use Rattle.search.proofs.nearest.Goals as goal
+use Rattle.search.proofs.nearest.Goals.{then-serves, else-serves}
 
 pub count-m-requires : goal.count-m-requires
 count-m-requires c = c.requires
 
 pub loop-k-init : goal.loop-k-init
 loop-k-init c = let a = c.args in (
-      omega arith,
-      c.count-m.ensures.0,
-      c.count-m.ensures.1,
-      inl refl,
-      λ tables ready. inl (refl, value_start (rule tables) (from_zero 131072 a.v) a.t),
-    )
+  omega arith,
+  c.count-m.ensures.0,
+  c.count-m.ensures.1,
+  inl refl,
+  λ tables ready. inl (refl, value_start (rule tables) (from_zero 131072 a.v) a.t),
+)
 
 pub form_at-f-requires : goal.form_at-f-requires
 form_at-f-requires c = (c.requires.0.1.room, omega arith, omega arith)
@@ -50,12 +51,12 @@ loop-k-preserved c = let p = c.requires in
       omega arith,
       l.invariant.1,
       l.invariant.2,
-      ⊎_elim (λ w. rw w.2 w.1.ensures.1) (λ w. rw w.1 l.invariant.3) c.if-serves.branch,
+      elim c.if-serves.branch [ then-serves w ↦ rw w.best-is w.nearer-best.ensures.1 | else-serves w ↦ rw w.best-is l.invariant.3 ],
       λ tables ready.
-          ⊎_elim
-          (λ w. rw w.2 (w.1.ensures.0 tables a.v ready ((told tables ready).0 w.0.taken) (l.invariant.4 tables ready)))
-          (λ w. rw w.1 (served_skip tables a.v a.t l.k l.best ((told tables ready).1 w.0.left) (l.invariant.4 tables ready)))
-          c.if-serves.branch,
+          elim c.if-serves.branch [
+            | then-serves w ↦ rw w.best-is (w.nearer-best.ensures.0 tables a.v ready ((told tables ready).0 w.if-serves.true) (l.invariant.4 tables ready))
+            | else-serves w ↦ rw w.best-is (served_skip tables a.v a.t l.k l.best ((told tables ready).1 w.if-serves.false) (l.invariant.4 tables ready))
+          ],
     )
 
 pub returns : goal.returns

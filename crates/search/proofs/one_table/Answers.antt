@@ -1,20 +1,17 @@
-use Prim.Native.Nat.{ℕ, suc, ◌-◌, ◌≤◌, ◌<◌}
+use Prim.Native.Nat.{ℕ, ◌-◌, ◌<◌}
 use mathlib.Core.Path.{◌≡◌, refl, subst}
 use mathlib.Core.List.{List, [], ◌∷◌}
-use mathlib.Core.Logic.{⊎_elim}
 use native.Mathlib.Omega.{arith}
 use lib.ListN.{length, set, drop, length-set}
 use Rattle.samples.specs.Differences.{differences}
 use Rattle.samples.proofs.Laws.{length_differences}
-use Rattle.tables.specs.declared.Structure.{Structure}
-use Rattle.compiled.specs.InnerForm.{Compiled}
 use Rattle.paths.specs.InnerPaths.{Exact}
 use Rattle.shortest.specs.InnerRule.{rule}
-use Rattle.search.specs.InnerSearch.{cap, at, Trail, IsNearest, Known}
+use Rattle.search.specs.InnerSearch.{cap, at, IsNearest, Known}
 use Rattle.search.proofs.Laws.{place_most}
 use Rattle.search.proofs.Layers.{zeros_exact, step_exact, step_trail, alone, one_layer, set_in, set_out}
 use Rattle.search.proofs.one_table.Goals as goal
-use Rattle.search.proofs.one_table.Goals.{Joined-k-gt64}
+use Rattle.search.proofs.one_table.Goals.{Joined-k-gt64, then-k-gt64, else-k-gt64}
 
 pub loop-i-init : goal.loop-i-init
 loop-i-init c = let a = c.args in
@@ -45,14 +42,14 @@ learn-k-requires c = let p = c.requires in
 
 -- the value's structure was known, or was looked for
 found : (c : Joined-k-gt64) → let a = c.args in
-    IsNearest a.tab.now 1 c.type_inv.known.result c.type_inv.known.k × Known a.tab.now c.type_inv.known.known
+    IsNearest a.tab.now 1 c.value_at-v.result c.if-k-gt64.k × Known a.tab.now c.if-k-gt64.known
 found c =
     let tab = c.args.tab.now in
     let K = c.loop-i.invariant.3 in
-    ⊎_elim
-    (λ w. rw (w.4, w.5) w.2.ensures)
-    (λ w. rw (w.1, w.2) (c.recall-k.ensures tab K (omega (arith, w.0.left)), K))
-    c.type_inv.known.branch
+    elim c.if-k-gt64.branch [
+      | then-k-gt64 w ↦ rw (w.k-is, w.known-is) w.learn-k.ensures
+      | else-k-gt64 w ↦ rw (w.k-is, w.known-is) (c.recall-k.ensures tab K (omega (arith, w.if-k-gt64.false)), K)
+    ]
 
 pub value_cost-cost-requires : goal.value_cost-cost-requires
 value_cost-cost-requires c = let p = c.requires in
@@ -60,7 +57,7 @@ value_cost-cost-requires c = let p = c.requires in
 
 pub overflow_cast-work : goal.overflow_cast-work
 overflow_cast-work c = let p = c.requires in
-    omega (arith, place_most p.0.1 1 c.type_inv.known.k (omega arith) (found (goal.at.overflow_cast-work c).Joined-k-gt64).0.1)
+    omega (arith, place_most p.0.1 1 c.if-k-gt64.k (omega arith) (found (goal.at.overflow_cast-work c).Joined-k-gt64).0.1)
 
 pub bounds-work-i : goal.bounds-work-i
 bounds-work-i c = let p = c.requires in
@@ -70,7 +67,7 @@ pub loop-i-preserved : goal.loop-i-preserved
 loop-i-preserved c = let p = c.requires in
     let a = c.args in
     let l = c.loop-i in
-    let k = c.type_inv.known.k in
+    let k = c.if-k-gt64.k in
     let K = found (goal.at.loop-i-preserved c).Joined-k-gt64 in
     let r = c.value_cost-cost in
     let vs = differences a.order a.xs.now in
@@ -78,7 +75,7 @@ loop-i-preserved c = let p = c.requires in
     let room : l.i - 1 < length l.work = omega (arith, l.invariant.1, p.2) in
     let marks : List ℕ = k ∷ [] in
     let work = set l.work (l.i - 1) k in
-    let is = c.type_inv.known.ensures.0 in
+    let is = c.value_at-v.ensures.0 in
     let new = set_in l.work (l.i - 1) k room in
     let old = set_out l.work (l.i - 1) k room in (
       omega arith,

@@ -1,19 +1,15 @@
 -- From value i on the one table's cost is exact, and the work space has the way.
-use Prim.Native.Nat.{ℕ, suc, ◌-◌, ◌≤◌, ◌<◌}
-use mathlib.Core.Path.{◌≡◌, refl, subst}
-use mathlib.Core.List.{List, [], ◌∷◌}
-use mathlib.Core.Logic.{⊎_elim}
-use native.Mathlib.Omega.{arith}
-use lib.ListN.{length, set, drop, length-set}
+use Prim.Native.Nat.{suc, ◌≤◌}
+use mathlib.Core.Path.{◌≡◌}
+use mathlib.Core.List.{List}
+use lib.ListN.{length, drop}
 use Rattle.samples.specs.Differences.{differences}
-use Rattle.samples.proofs.Laws.{length_differences}
 use Rattle.tables.specs.declared.Structure.{Structure}
 use Rattle.compiled.specs.InnerForm.{Compiled}
 use Rattle.paths.specs.InnerPaths.{Exact}
 use Rattle.shortest.specs.InnerRule.{rule}
-use Rattle.search.specs.InnerSearch.{cap, at, Trail, IsNearest, Known}
-use Rattle.search.proofs.Laws.{place_most}
-use Rattle.search.proofs.Layers.{zeros_exact, step_exact, step_trail, alone, one_layer, set_in, set_out}
+use Rattle.search.specs.InnerSearch.{cap, at, Trail, Known}
+use Rattle.search.proofs.Layers.{alone}
 use Rattle.search.proofs.one_table.Given as goal
 
 abbrev pub invariant-loop-i : goal.invariant-loop-i

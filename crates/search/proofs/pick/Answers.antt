@@ -3,7 +3,6 @@ use mathlib.Core.Path.{refl}
 use mathlib.Core.Logic.{inl}
 use borrow.Author.Tests.{eq-eqb, ne_eqb}
 use Rattle.search.specs.InnerSearch.{at}
-use borrow.Author.Rules.{rules}
 use Rattle.search.proofs.pick.Goals as goal
 
 pub returns-then-first-t : goal.returns-then-first-t

@@ -1,7 +1,6 @@
 -- A small value's place has its structure, or more than 64; 255 is more.
 use Prim.Native.Nat.{◌-◌, ◌*◌, ◌+◌}
 use native.Mathlib.Omega.{arith}
-use borrow.Author.Rules.{rules}
 use Rattle.search.proofs.recall.Goals as goal
 
 pub returns-then-v-lt130944 : goal.returns-then-v-lt130944

@@ -1,11 +1,7 @@
 -- With k structures passed the least of theirs is known.
 use Prim.Native.Nat.{◌-◌, ◌≤◌}
-use mathlib.Core.Path.{◌≡◌, ◌∙◌}
-use mathlib.Core.Logic.{⊎_elim}
-use native.Mathlib.Omega.{arith}
-use native.Mathlib.Nat.{le_antisymm}
+use mathlib.Core.Path.{◌≡◌}
 use Rattle.search.specs.InnerSearch.{count_of, leap_of, LeastOf}
-use Rattle.search.proofs.Settling.{least_none, least_new, least_old}
 use Rattle.search.proofs.relax.Given as goal
 
 abbrev pub invariant-loop-k : goal.invariant-loop-k

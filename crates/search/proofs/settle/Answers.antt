@@ -1,14 +1,7 @@
-use Prim.Native.Nat.{ℕ, ◌+◌, ◌-◌, ◌*◌, ◌≤◌, ◌<◌}
-use mathlib.Core.Path.{◌≡◌}
-use mathlib.Core.List.{List}
+use Prim.Native.Nat.{◌<◌}
 use native.Mathlib.Omega.{arith}
-use lib.IntN.{ℤ}
 use lib.ListN.{length, length-set}
-use Rattle.bits.specs.InnerRaised.{from_zero}
-use Rattle.tables.specs.declared.Structure.{Structure}
-use Rattle.compiled.specs.InnerForm.{Compiled}
-use Rattle.search.specs.InnerSearch.{at, AllMet}
-use Rattle.search.proofs.Settling.{total, total_set, Quiet, quiet_none, quiet_more, quiet_all, set_less, met_set}
+use Rattle.search.proofs.Settling.{total_set, quiet_none, quiet_more, quiet_all, set_less, met_set}
 use Rattle.search.proofs.settle.Goals as goal
 
 pub loop-quiet-init : goal.loop-quiet-init

@@ -1,10 +1,8 @@
-use Prim.Native.Nat.{ℕ, ◌-◌, ◌≤◌, ◌<◌}
-use mathlib.Core.Path.{◌≡◌, ap, sym, ◌∙◌}
+use mathlib.Core.Path.{ap, sym, ◌∙◌}
 use native.Mathlib.Omega.{arith}
 use borrow.Author.Count.{below_more}
 use Rattle.compiled.specs.declared.Form.{Form}
 use Rattle.wire.proofs.Laws.{unlike}
-use Rattle.search.specs.InnerSearch.{count_of, form_in}
 use Rattle.search.proofs.switches.Goals as goal
 
 pub count-m-requires : goal.count-m-requires
@@ -21,11 +19,11 @@ returns-then-form_at-ne0 c = λ z. unlike cc
 
 pub loop-k-preserved : goal.loop-k-preserved
 loop-k-preserved c = let l = c.loop-k in (
-      omega arith,
-      l.invariant.1,
-      l.invariant.2,
-      below_more _ l.k l.invariant.3 (sym (ap (λ (f : Form). f.to) c.form_at.ensures) ∙ c.if-form_at-ne0.false),
-    )
+  omega arith,
+  l.invariant.1,
+  l.invariant.2,
+  below_more _ l.k l.invariant.3 (sym (ap (λ (f : Form). f.to) c.form_at.ensures) ∙ c.if-form_at-ne0.false),
+)
 
 pub returns : goal.returns
 returns c = λ z k h. c.loop-k.invariant.3 k (omega (arith, c.loop-k.invariant.1))

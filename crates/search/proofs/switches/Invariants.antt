@@ -1,10 +1,6 @@
 -- None of the structures before k is a switch.
 use Prim.Native.Nat.{ℕ, ◌-◌, ◌≤◌, ◌<◌}
-use mathlib.Core.Path.{◌≡◌, ap, sym, ◌∙◌}
-use native.Mathlib.Omega.{arith}
-use borrow.Author.Count.{below_more}
-use Rattle.compiled.specs.declared.Form.{Form}
-use Rattle.wire.proofs.Laws.{unlike}
+use mathlib.Core.Path.{◌≡◌}
 use Rattle.search.specs.InnerSearch.{count_of, form_in}
 use Rattle.search.proofs.switches.Given as goal
 

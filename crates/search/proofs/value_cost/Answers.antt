@@ -5,7 +5,6 @@ use mathlib.Core.Logic.{⊎_elim}
 use Rattle.paths.specs.InnerPaths.{join}
 use Rattle.paths.proofs.Layer.{join_most}
 use Rattle.search.specs.InnerSearch.{cap}
-use borrow.Author.Rules.{rules}
 use Rattle.search.proofs.value_cost.Goals as goal
 
 pub bits_of-requires : goal.bits_of-requires

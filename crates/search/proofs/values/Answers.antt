@@ -1,28 +1,24 @@
-use Prim.Native.Nat.{ℕ, suc, ◌+◌, ◌-◌, ◌≤◌, ◌<◌}
-use mathlib.Core.Path.{◌≡◌, refl}
-use mathlib.Core.List.{List}
-use mathlib.Core.Logic.{⊎_elim}
+use Prim.Native.Nat.{ℕ, suc}
+use mathlib.Core.Path.{refl}
 use native.Mathlib.Omega.{arith}
-use lib.ListN.{length, length-set, get_or-replicate}
-use Rattle.tables.specs.declared.Structure.{Structure}
-use Rattle.compiled.specs.InnerForm.{Compiled}
-use Rattle.search.specs.InnerSearch.{cap, at, IsNearest, Known, ValuedTo}
+use lib.ListN.{length-set, get_or-replicate}
+use Rattle.search.specs.InnerSearch.{cap, IsNearest, Known}
 use Rattle.search.proofs.Laws.{place_most}
 use Rattle.search.proofs.Served.{valued, valued_more, set_most}
 use Rattle.search.proofs.values.Goals as goal
-use Rattle.search.proofs.values.Goals.{Joined-k-gt64}
+use Rattle.search.proofs.values.Goals.{Joined-k-gt64, then-k-gt64, else-k-gt64}
 
 pub loop-t-init : goal.loop-t-init
 loop-t-init c = let p = c.requires in (
-      omega arith,
-      omega arith,
-      omega (arith, p.0.1.most, p.0.2),
-      p.2,
-      refl,
-      λ u h. omega (arith, get_or-replicate {A = ℕ} 9 u 524282 0 h),
-      λ tables ready u a b. absurd (omega arith),
-      p.1,
-    )
+  omega arith,
+  omega arith,
+  omega (arith, p.0.1.most, p.0.2),
+  p.2,
+  refl,
+  λ u h. omega (arith, get_or-replicate {A = ℕ} 9 u 524282 0 h),
+  λ tables ready u a b. absurd (omega arith),
+  p.1,
+)
 
 pub recall-k-requires : goal.recall-k-requires
 recall-k-requires c = (omega arith, omega arith, c.loop-t.invariant.7.room)
@@ -37,10 +33,10 @@ found : (c : Joined-k-gt64) → let a = c.args in
 found c =
     let tab = c.args.tab.now in
     let K = c.loop-t.invariant.7 in
-    ⊎_elim
-    (λ w. rw (w.5, w.6) w.2.ensures)
-    (λ w. rw (w.1, w.2) (c.recall-k.ensures tab K (omega (arith, w.0.left)), K))
-    c.if-k-gt64.branch
+    elim c.if-k-gt64.branch [
+      | then-k-gt64 w ↦ rw (w.k-is, w.known-is) w.learn-k.ensures
+      | else-k-gt64 w ↦ rw (w.k-is, w.known-is) (c.recall-k.ensures tab K (omega (arith, w.if-k-gt64.false)), K)
+    ]
 
 pub value_cost-requires : goal.value_cost-requires
 value_cost-requires c = let p = c.requires in

@@ -1,15 +1,11 @@
 -- With the tables before t passed, their value's structures are marked, and what they cost is known.
 use Prim.Native.Nat.{ℕ, suc, ◌+◌, ◌-◌, ◌≤◌, ◌<◌}
-use mathlib.Core.Path.{◌≡◌, refl}
+use mathlib.Core.Path.{◌≡◌}
 use mathlib.Core.List.{List}
-use mathlib.Core.Logic.{⊎_elim}
-use native.Mathlib.Omega.{arith}
-use lib.ListN.{length, length-set, get_or-replicate}
+use lib.ListN.{length}
 use Rattle.tables.specs.declared.Structure.{Structure}
 use Rattle.compiled.specs.InnerForm.{Compiled}
-use Rattle.search.specs.InnerSearch.{cap, at, IsNearest, Known, ValuedTo}
-use Rattle.search.proofs.Laws.{place_most}
-use Rattle.search.proofs.Served.{valued, valued_more, set_most}
+use Rattle.search.specs.InnerSearch.{cap, at, Known, ValuedTo}
 use Rattle.search.proofs.values.Given as goal
 
 abbrev pub invariant-loop-t : goal.invariant-loop-t
