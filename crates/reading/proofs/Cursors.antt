@@ -24,7 +24,6 @@ use Rattle.bits.proofs.Laws.{length_bits_in, small_drop, small_bits_in}
 use Rattle.tables.specs.declared.Structure.{Structure}
 use Rattle.tables.specs.Structures.{prefix_of, remainder_of, structure_right, no_structure}
 use Rattle.tables.specs.Section2.{table_of, table_right}
-use Rattle.tables.proofs.Laws.{fine}
 use Rattle.compiled.specs.declared.Form.{Form}
 use Rattle.compiled.specs.InnerForm.{lowest, form_of, Compiled, CompiledOrNone}
 use Rattle.compiled.proofs.Laws.{FineForm, form_fine, held_right, held_count}

@@ -4,7 +4,6 @@ use Prim.Native.Nat.{suc, ◌-◌}
 use native.Mathlib.Omega.{arith}
 use lib.Pow.{pow_mono}
 use Rattle.compiled.specs.InnerForm.{beyond}
-use borrow.Author.Rules.{rules}
 use Rattle.compiled.proofs.beyond_of.Goals as goal
 
 pub returns-then-remainder-eq0 : goal.returns-then-remainder-eq0

@@ -1,8 +1,5 @@
-use Prim.Native.Nat.{◌-◌, ◌≤◌}
 use mathlib.Core.Path.{sym, ◌∙◌}
 use native.Mathlib.Omega.{arith}
-use Rattle.tables.specs.Section2.{tables_in}
-use Rattle.compiled.specs.InnerForm.{Compiled}
 use Rattle.compiled.proofs.Putting.{ready_same}
 use Rattle.compiled.proofs.compile.Goals as goal
 

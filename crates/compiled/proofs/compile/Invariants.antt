@@ -1,10 +1,7 @@
 -- The tables are put, and stay as they are while what to try first is put behind them (`ready_same`).
 use Prim.Native.Nat.{◌-◌, ◌≤◌}
-use mathlib.Core.Path.{sym, ◌∙◌}
-use native.Mathlib.Omega.{arith}
 use Rattle.tables.specs.Section2.{tables_in}
 use Rattle.compiled.specs.InnerForm.{Compiled}
-use Rattle.compiled.proofs.Putting.{ready_same}
 use Rattle.compiled.proofs.compile.Given as goal
 
 abbrev pub invariant-loop-t : goal.invariant-loop-t

@@ -3,7 +3,6 @@ use mathlib.Core.Path.{◌≡◌}
 use Prim.Native.Nat.{◌+◌, ◌*◌}
 use native.Mathlib.Omega.{arith}
 use Rattle.compiled.specs.InnerForm.{form_at}
-use borrow.Author.Rules.{rules}
 use Rattle.compiled.proofs.form_at.Goals as goal
 
 pub overflow_cast-result : goal.overflow_cast-result

@@ -1,7 +1,6 @@
 -- The calls give the parts, and the mode decides between a switch and a value as in the definition.
 use borrow.Author.Tests.{eq-eqb, ne_eqb}
 use Rattle.compiled.specs.InnerForm.{form_of}
-use borrow.Author.Rules.{rules}
 use Rattle.compiled.proofs.form_of.Goals as goal
 
 pub returns-then-c-eq0 : goal.returns-then-c-eq0

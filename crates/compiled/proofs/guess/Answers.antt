@@ -4,7 +4,6 @@ use Prim.Native.Nat.{◌+◌, ◌-◌, ◌*◌, ◌/◌, ◌^◌}
 use native.Mathlib.Omega.{arith}
 use lib.ListN.{drop}
 use lib.Seq.{get_or-take, get_or-drop}
-use borrow.Author.Rules.{rules}
 use Rattle.compiled.proofs.guess.Goals as goal
 
 pub returns : goal.returns

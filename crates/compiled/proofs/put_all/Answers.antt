@@ -9,7 +9,6 @@ use Rattle.tables.specs.Section2.{tables_from, tables_in}
 use Rattle.tables.proofs.Laws.{RightTables, length_tables, own_tables}
 use Rattle.tables.proofs.Default.{default_right}
 use Rattle.compiled.proofs.Putting.{default_two, tables_two, ready}
-use borrow.Author.Rules.{rules}
 use Rattle.compiled.proofs.put_all.Goals as goal
 use Rattle.compiled.proofs.put_all.Goals.{After-number16-n}
 

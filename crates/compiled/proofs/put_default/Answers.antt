@@ -1,4 +1,3 @@
-use Prim.Native.Nat.{◌-◌, ◌≤◌}
 use mathlib.Core.Path.{◌≡◌, refl, sym, ap, ◌∙◌}
 use mathlib.Core.Bool.{true}
 use native.Mathlib.Omega.{arith}
@@ -14,7 +13,7 @@ use Rattle.tables.proofs.Laws.{fine, table_right_lem}
 use Rattle.tables.proofs.Default.{default_right}
 use Rattle.compiled.specs.InnerForm.{form_of}
 use Rattle.compiled.proofs.Laws.{form_fine, form_room}
-use Rattle.compiled.proofs.Putting.{Upto, upto_start, upto_turn, upto_end}
+use Rattle.compiled.proofs.Putting.{upto_start, upto_turn, upto_end}
 use Rattle.compiled.proofs.put_default.Goals as goal
 use Rattle.compiled.proofs.put_default.Goals.{After-default_structure}
 

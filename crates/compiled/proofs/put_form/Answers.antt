@@ -6,7 +6,6 @@ use native.Mathlib.Omega.{arith}
 use lib.ListN.{take, drop, length-set}
 use lib.Seq.{sets-eq}
 use Rattle.compiled.specs.InnerForm.{numbers_of}
-use borrow.Author.Rules.{rules}
 use Rattle.compiled.proofs.put_form.Goals as goal
 
 pub bounds-tab-o-2 : goal.bounds-tab-o-2

@@ -1,10 +1,9 @@
-use Prim.Native.Nat.{ℕ, ◌+◌, ◌-◌, ◌≤◌, ◌<◌}
-use mathlib.Core.Path.{◌≡◌, refl, ◌∙◌}
+use Prim.Native.Nat.{◌-◌, ◌≤◌}
+use mathlib.Core.Path.{refl, ◌∙◌}
 use native.Mathlib.Omega.{arith}
-use lib.ListN.{length, get_or, length-set}
+use lib.ListN.{length-set}
 use lib.Pow.{pow_mono}
 use lib.Seq.{get_or-set_other}
-use Rattle.compiled.specs.InnerForm.{SameTables}
 use Rattle.compiled.proofs.put_guess.Goals as goal
 use Rattle.compiled.proofs.put_guess.Goals.{After-power-many}
 

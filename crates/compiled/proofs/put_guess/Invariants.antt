@@ -1,10 +1,7 @@
 -- Only the guesses are written, which are behind the numbers of the tables.
-use Prim.Native.Nat.{ℕ, ◌+◌, ◌-◌, ◌≤◌, ◌<◌}
-use mathlib.Core.Path.{◌≡◌, refl, ◌∙◌}
-use native.Mathlib.Omega.{arith}
-use lib.ListN.{length, get_or, length-set}
-use lib.Pow.{pow_mono}
-use lib.Seq.{get_or-set_other}
+use Prim.Native.Nat.{◌+◌, ◌-◌, ◌≤◌}
+use mathlib.Core.Path.{◌≡◌}
+use lib.ListN.{length}
 use Rattle.compiled.specs.InnerForm.{SameTables}
 use Rattle.compiled.proofs.put_guess.Given as goal
 

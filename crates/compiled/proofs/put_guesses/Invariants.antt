@@ -1,7 +1,6 @@
 -- Each turn leaves the numbers of the tables as they were.
-use Prim.Native.Nat.{ℕ, ◌-◌, ◌*◌, ◌≤◌, ◌<◌}
-use mathlib.Core.Path.{◌≡◌, refl, ◌∙◌}
-use native.Mathlib.Omega.{arith}
+use Prim.Native.Nat.{◌-◌, ◌≤◌}
+use mathlib.Core.Path.{◌≡◌}
 use lib.ListN.{length}
 use Rattle.compiled.specs.InnerForm.{SameTables}
 use Rattle.compiled.proofs.put_guesses.Given as goal

@@ -1,12 +1,9 @@
 -- With the tables below t done, those from n on have no structure, and the numbers below table n are as they were.
 use Prim.Native.Nat.{ℕ, ◌-◌, ◌*◌, ◌≤◌, ◌<◌}
-use mathlib.Core.Path.{◌≡◌, refl, ◌∙◌}
+use mathlib.Core.Path.{◌≡◌}
 use mathlib.Core.List.{[]}
-use native.Mathlib.Omega.{arith}
-use lib.ListN.{length, get_or, length-set}
-use lib.Seq.{get_or-set_other}
+use lib.ListN.{length, get_or}
 use Rattle.compiled.specs.InnerForm.{Says}
-use Rattle.compiled.proofs.Putting.{none_turn}
 use Rattle.compiled.proofs.put_none.Given as goal
 
 abbrev pub invariant-loop-t : goal.invariant-loop-t

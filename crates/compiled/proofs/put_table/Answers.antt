@@ -1,4 +1,4 @@
-use Prim.Native.Nat.{◌+◌, ◌-◌, ◌*◌, ◌≤◌, ◌<◌}
+use Prim.Native.Nat.{◌+◌, ◌<◌}
 use mathlib.Core.Path.{◌≡◌, sym, ap, ◌∙◌}
 use mathlib.Core.Bool.{true}
 use native.Mathlib.Omega.{arith}
@@ -10,7 +10,7 @@ use Rattle.wire.proofs.Every.{every_at}
 use Rattle.tables.proofs.Laws.{fine, length_structures_at, get_d_structures_at}
 use Rattle.compiled.specs.InnerForm.{form_of}
 use Rattle.compiled.proofs.Laws.{form_fine, form_room}
-use Rattle.compiled.proofs.Putting.{Upto, upto_start, upto_turn, upto_end}
+use Rattle.compiled.proofs.Putting.{upto_start, upto_turn, upto_end}
 use Rattle.compiled.proofs.put_table.Goals as goal
 use Rattle.compiled.proofs.put_table.Goals.{After-structure_at}
 

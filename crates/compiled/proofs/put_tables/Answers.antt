@@ -1,4 +1,4 @@
-use Prim.Native.Nat.{ℕ, ◌+◌, ◌-◌, ◌*◌, ◌≤◌, ◌<◌}
+use Prim.Native.Nat.{ℕ, ◌+◌, ◌-◌, ◌<◌}
 use mathlib.Core.Path.{◌≡◌, sym, ap, ◌∙◌}
 use mathlib.Core.Bool.{true}
 use mathlib.Core.List.{[]}
@@ -10,7 +10,6 @@ use Rattle.tables.specs.Structures.{structures_at}
 use Rattle.tables.specs.Section2.{table_at, after_table, tables_from, table_right}
 use Rattle.wire.proofs.Every.{every_at}
 use Rattle.tables.proofs.Laws.{table_right_lem, length_structures_at, length_tables, after_right}
-use Rattle.compiled.specs.InnerForm.{Says}
 use Rattle.compiled.proofs.Putting.{tables_next, tables_turn}
 use Rattle.compiled.proofs.put_tables.Goals as goal
 use Rattle.compiled.proofs.put_tables.Goals.{In-loop-t}

@@ -2,7 +2,6 @@
 use Prim.Native.Nat.{◌-◌, ◌/◌, ◌^◌}
 use mathlib.Core.Path.{sym, ap, ap₂, ◌∙◌}
 use native.Mathlib.Omega.{arith}
-use borrow.Author.Rules.{rules}
 use lib.Dec.{eqb}
 use Rattle.bits.proofs.Laws.{begins_short}
 use Rattle.bits.proofs.Windows.{window_begins}

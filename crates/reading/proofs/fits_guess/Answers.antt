@@ -1,6 +1,5 @@
 -- Where the prefix has another length nothing is said; else the window is asked.
 use mathlib.Core.Path.{sym, ◌∙◌}
-use borrow.Author.Rules.{rules}
 use Rattle.wire.proofs.Laws.{unlike}
 use Rattle.reading.proofs.fits_guess.Goals as goal
 

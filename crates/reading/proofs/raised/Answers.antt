@@ -2,7 +2,6 @@
 use Prim.Native.Nat.{ℕ, ◌+◌, ◌-◌, ◌*◌}
 use mathlib.Core.Path.{ap, ◌∙◌}
 use native.Mathlib.Omega.{arith}
-use borrow.Author.Rules.{rules}
 use Rattle.bits.specs.InnerRaised.{from_zero}
 use Rattle.reading.proofs.Cursors.{lower_low, lower_high}
 use Rattle.reading.proofs.raised.Goals as goal

@@ -1,17 +1,15 @@
-use Prim.Native.Nat.{ℕ, ◌+◌, ◌-◌, ◌*◌, ◌≤◌, ◌<◌}
+use Prim.Native.Nat.{ℕ, ◌*◌, ◌<◌}
 use mathlib.Core.Path.{◌≡◌, refl, sym, ap, ◌∙◌}
 use mathlib.Core.List.{List, []}
 use mathlib.Core.Option.{some}
 use native.Mathlib.Numerals.{add-one}
 use native.Mathlib.Omega.{arith}
-use lib.ListN.{length, get_or, drop}
+use lib.ListN.{length, get_or}
 use Rattle.bits.specs.Bits.{begins}
 use Rattle.tables.specs.declared.Structure.{Structure}
 use Rattle.tables.specs.Structures.{prefix_of, no_structure}
 use Rattle.compiled.specs.InnerForm.{form_of, Compiled}
 use Rattle.compiled.proofs.Laws.{held_count, held_form, held_fine}
-use Rattle.reading.specs.Reading.{matching}
-use Rattle.reading.specs.Compared.{compared_in}
 use Rattle.reading.specs.InnerCursor.{Seen, formed}
 use Rattle.reading.proofs.Cursors.{matching_here, matching_behind, matching_end}
 use Rattle.reading.proofs.walk.Goals as goal

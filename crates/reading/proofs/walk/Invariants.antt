@@ -1,20 +1,13 @@
 -- At every turn the structures that are left decide, since none before matched; the form of the next one tells whether it does.
-use Prim.Native.Nat.{ℕ, ◌+◌, ◌-◌, ◌*◌, ◌≤◌, ◌<◌}
-use mathlib.Core.Path.{◌≡◌, refl, sym, ap, ◌∙◌}
+use Prim.Native.Nat.{ℕ, ◌+◌, ◌-◌, ◌≤◌}
+use mathlib.Core.Path.{◌≡◌}
 use mathlib.Core.List.{List, []}
-use mathlib.Core.Option.{some}
-use native.Mathlib.Numerals.{add-one}
-use native.Mathlib.Omega.{arith}
-use lib.ListN.{length, get_or, drop}
-use Rattle.bits.specs.Bits.{begins}
+use lib.ListN.{get_or, drop}
 use Rattle.tables.specs.declared.Structure.{Structure}
-use Rattle.tables.specs.Structures.{prefix_of, no_structure}
-use Rattle.compiled.specs.InnerForm.{form_of, Compiled}
-use Rattle.compiled.proofs.Laws.{held_count, held_form, held_fine}
+use Rattle.compiled.specs.InnerForm.{Compiled}
 use Rattle.reading.specs.Reading.{matching}
 use Rattle.reading.specs.Compared.{compared_in}
-use Rattle.reading.specs.InnerCursor.{Seen, formed}
-use Rattle.reading.proofs.Cursors.{matching_here, matching_behind, matching_end}
+use Rattle.reading.specs.InnerCursor.{Seen}
 use Rattle.reading.proofs.walk.Given as goal
 
 abbrev pub invariant-loop-k : goal.invariant-loop-k

@@ -1,6 +1,6 @@
 -- A form that was found is that of the structure that is matched: a value's ends the step, and a switch's is followed, which carries on
 -- as the rule does.
-use Rattle.std.proofs.Common.{ℕ, ◌≡◌, sym, ap, subst, ◌∙◌, List, length, drop, ◌-◌, ◌+◌, ◌*◌, arith}
+use Rattle.std.proofs.Common.{ℕ, sym, ap, subst, ◌∙◌, List, length, drop, arith}
 use native.Mathlib.Nat.{pos_of_ne-zero}
 use Rattle.bits.specs.Bits.{bits_in}
 use Rattle.tables.specs.declared.Structure.{Structure}

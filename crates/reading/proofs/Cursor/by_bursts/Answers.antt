@@ -1,14 +1,8 @@
-use Prim.Native.Nat.{ℕ, ◌+◌, ◌-◌, ◌*◌, ◌≤◌, ◌<◌}
-use mathlib.Core.Path.{◌≡◌, refl, sym, ap, subst, ◌∙◌}
-use mathlib.Core.List.{List}
+use Prim.Native.Nat.{ℕ, ◌*◌, ◌<◌}
+use mathlib.Core.Path.{refl, sym, ap, subst, ◌∙◌}
 use native.Mathlib.Omega.{arith}
-use borrow.Author.Rules.{rules}
-use lib.ListN.{length, drop}
+use lib.ListN.{length}
 use Rattle.bits.specs.Bits.{bits_in}
-use Rattle.tables.specs.declared.Structure.{Structure}
-use Rattle.compiled.specs.InnerForm.{Compiled}
-use Rattle.reading.specs.Reading.{read_coded}
-use Rattle.reading.specs.Compared.{compared_coded}
 use Rattle.reading.specs.InnerCursor.{told_of, Summed, SummedOf, Within, OnwardOf}
 use Rattle.reading.proofs.Cursors.{onward_from}
 use Rattle.reading.proofs.Cursor.by_bursts.Goals as goal

@@ -1,17 +1,14 @@
 -- Reading on from the cursor gives what reading gave at first; a burst that did not end is further on, within the bits.
-use Prim.Native.Nat.{ℕ, ◌+◌, ◌-◌, ◌*◌, ◌≤◌, ◌<◌}
-use mathlib.Core.Path.{◌≡◌, refl, sym, ap, subst, ◌∙◌}
+use Prim.Native.Nat.{◌+◌, ◌-◌, ◌*◌, ◌≤◌}
+use mathlib.Core.Path.{◌≡◌}
 use mathlib.Core.List.{List}
-use native.Mathlib.Omega.{arith}
-use borrow.Author.Rules.{rules}
 use lib.ListN.{length, drop}
 use Rattle.bits.specs.Bits.{bits_in}
 use Rattle.tables.specs.declared.Structure.{Structure}
 use Rattle.compiled.specs.InnerForm.{Compiled}
 use Rattle.reading.specs.Reading.{read_coded}
 use Rattle.reading.specs.Compared.{compared_coded}
-use Rattle.reading.specs.InnerCursor.{told_of, Summed, SummedOf, Within, OnwardOf}
-use Rattle.reading.proofs.Cursors.{onward_from}
+use Rattle.reading.specs.InnerCursor.{Within}
 use Rattle.reading.proofs.Cursor.by_bursts.Given as goal
 
 abbrev pub invariant-loop-r : goal.invariant-loop-r

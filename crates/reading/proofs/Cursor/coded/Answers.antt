@@ -5,14 +5,13 @@ use mathlib.Core.Path.{◌≡◌, sym, ap, subst, ◌∙◌}
 use mathlib.Core.List.{List}
 use native.Mathlib.Nat.{pos_of_ne-zero}
 use native.Mathlib.Omega.{arith}
-use borrow.Author.Rules.{rules}
 use lib.ListN.{length, drop}
 use Rattle.bits.specs.Bits.{bits_in}
 use Rattle.tables.specs.declared.Structure.{Structure}
 use Rattle.compiled.specs.InnerForm.{Compiled}
 use Rattle.reading.specs.Reading.{read_coded}
 use Rattle.reading.specs.Compared.{compared_coded}
-use Rattle.reading.specs.InnerCursor.{Seen, found_in, told_of, Summed, SummedOf, Within, OnwardOf}
+use Rattle.reading.specs.InnerCursor.{found_in, told_of, Summed, SummedOf, Within, OnwardOf}
 use Rattle.reading.proofs.Laws.{read_none}
 use Rattle.reading.proofs.Cursors.{length_left, seen_left, found_none, FoundForm, found_form, read_form, read_on, onward_from}
 use Rattle.reading.proofs.Cursor.coded.Goals as goal
