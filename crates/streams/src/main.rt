@@ -6,8 +6,8 @@
 ghost use Rattle.std.specs.Prelude.{◌≤◌, length};
 ghost use Rattle.compiled.specs.InnerForm.{CompiledSomeOrNone};
 
-use libc::STDOUT_FILENO;
 use reading::{Cursor, Read};
+use std::io;
 
 // Section 2's data, a structure to a line: the two example tables; the default table, named and spelled out; and a table of two codes
 // of one bit, a switch to itself and the value 0.
@@ -80,43 +80,43 @@ fn zeros() -> [u8; 65535] {
     [0; 65535]
 }
 
-fn put(text: &[u8]) {
-    io::write_all(STDOUT_FILENO, text);
+fn put(rt: &impl Print, text: &str) -> io::Result<()> {
+    rt.print(text)
 }
 
-fn put_number(n: usize) {
-    io::print_decimal(STDOUT_FILENO, n as u64);
+fn put_number(rt: &impl Print, n: usize) -> io::Result<()> {
+    rt.print(n)
 }
 
 // One of `count` values, 131,072 added, and a blank; where there are more than 100 none is shown.
-fn put_value(x: usize, count: usize) {
+fn put_value(rt: &impl Print, x: usize, count: usize) -> io::Result<()> {
     if 100 < count {
-        return;
+        return Ok(());
     }
     if x < bits::VALUE_ZERO {
-        put(b"-");
-        put_number(bits::VALUE_ZERO - x);
+        put(rt, "-")?;
+        put_number(rt, bits::VALUE_ZERO - x)?;
     } else {
-        put_number(x - bits::VALUE_ZERO);
+        put_number(rt, x - bits::VALUE_ZERO)?;
     }
-    put(b" ");
+    put(rt, " ")
 }
 
 // How many values there are, where none was shown; the bits used, the structures compared, and the line's end.
-fn put_end(count: usize, at: usize, compared: usize) {
+fn put_end(rt: &impl Print, count: usize, at: usize, compared: usize) -> io::Result<()> {
     if 100 < count {
-        put_number(count);
-        put(b" ");
+        put_number(rt, count)?;
+        put(rt, " ")?;
     }
-    put(b"| ");
-    put_number(at);
-    put(b" | ");
-    put_number(compared);
-    put(b"\n");
+    put(rt, "| ")?;
+    put_number(rt, at)?;
+    put(rt, " | ")?;
+    put_number(rt, compared)?;
+    put(rt, "\n")
 }
 
 // So many values of a stream, by the tables held.
-fn put_values(stream: &[u8], tab: &[u32], count: usize)
+fn put_values(rt: &impl Print, stream: &[u8], tab: &[u32], count: usize) -> io::Result<()>
     requires { CompiledSomeOrNone tab.now × (length stream.now ≤ 1048576) }
 {
     let mut c = Cursor::new();
@@ -124,78 +124,76 @@ fn put_values(stream: &[u8], tab: &[u32], count: usize)
     while 0 < left {
         match c.value(stream, tab) {
             Read::Value(x, d) => {
-                put_value(x, count);
+                put_value(rt, x, count)?;
                 c = d;
                 left -= 1;
             }
             Read::Stuck => {
-                put(b"12 ");
+                put(rt, "12 ")?;
                 left = 0;
             }
         }
     }
-    put_end(count, c.at, c.compared);
+    put_end(rt, count, c.at, c.compared)
 }
 
 // So many values of a stream, by the tables of Section 2's data; without tables where these are empty.
-fn show(section2: &[u8], stream: &[u8], count: usize) {
+fn show(rt: &impl Print, section2: &[u8], stream: &[u8], count: usize) -> io::Result<()> {
     if 1048576 < stream.len() {
-        return;
+        return Ok(());
     }
     let mut tab = room();
     if section2.len() == 0 {
-        put_values(stream, &tab[..0], count);
-        return;
+        return put_values(rt, stream, &tab[..0], count);
     }
     if !tables::section2_right(section2, 0, 0) {
-        put(b"7\n");
-        return;
+        return put(rt, "7\n");
     }
     compiled::compile(section2, 0, 0, &mut tab);
-    put_values(stream, &tab, count);
+    put_values(rt, stream, &tab, count)
 }
 
 // The examples, whole.
-fn show_examples() {
-    show(&TWO_TABLES, &TWENTY, 20);
-    show(&TWO_TABLES, &NINETY_ONE, 20);
-    show(&NAMED, &SEVEN, 7);
-    show(&NAMED, &MANY, 28);
-    show(&NAMED, &MISPRINT, 27);
-    show(&SPELLED, &SEVEN, 7);
+fn show_examples(rt: &impl Print) -> io::Result<()> {
+    show(rt, &TWO_TABLES, &TWENTY, 20)?;
+    show(rt, &TWO_TABLES, &NINETY_ONE, 20)?;
+    show(rt, &NAMED, &SEVEN, 7)?;
+    show(rt, &NAMED, &MANY, 28)?;
+    show(rt, &NAMED, &MISPRINT, 27)?;
+    show(rt, &SPELLED, &SEVEN, 7)
 }
 
 // Streams that end between two codes, in a prefix, in the bits behind a prefix; and none.
-fn show_short() {
-    show(&NAMED, &SEVEN[..8], 7);
-    show(&NAMED, &MISPRINT, 28);
-    show(&NAMED, &SEVEN[..2], 7);
-    show(&NAMED, b"", 1);
+fn show_short(rt: &impl Print) -> io::Result<()> {
+    show(rt, &NAMED, &SEVEN[..8], 7)?;
+    show(rt, &NAMED, &MISPRINT, 28)?;
+    show(rt, &NAMED, &SEVEN[..2], 7)?;
+    show(rt, &NAMED, b"", 1)
 }
 
 // Section 2 with a byte too many, and with one too few.
-fn show_wrong() {
-    show(b"\x1F\x4E\x00", &SEVEN, 7);
-    show(&SPELLED[..174], &SEVEN, 7);
+fn show_wrong(rt: &impl Print) -> io::Result<()> {
+    show(rt, b"\x1F\x4E\x00", &SEVEN, 7)?;
+    show(rt, &SPELLED[..174], &SEVEN, 7)
 }
 
 // Two streams without tables, the second with half a value at its end.
-fn show_plain() {
-    show(b"", b"\x01\x00\xFF\xFF\x00\x80\xFF\x7F\x34\x12", 5);
-    show(b"", b"\x01\x00\x02", 2);
+fn show_plain(rt: &impl Print) -> io::Result<()> {
+    show(rt, b"", b"\x01\x00\xFF\xFF\x00\x80\xFF\x7F\x34\x12", 5)?;
+    show(rt, b"", b"\x01\x00\x02", 2)
 }
 
 // The longest lead: all switches, and all codes of one bit.
-fn show_longest() {
+fn show_longest(rt: &impl Print) -> io::Result<()> {
     let lead = zeros();
-    show(&SWITCHES, &lead, 1);
-    show(&NAMED, &lead, 524280);
+    show(rt, &SWITCHES, &lead, 1)?;
+    show(rt, &NAMED, &lead, 524280)
 }
 
-fn main() {
-    show_examples();
-    show_short();
-    show_wrong();
-    show_plain();
-    show_longest();
+fn main(rt: HostRuntime) -> io::Result<()> {
+    show_examples(&rt)?;
+    show_short(&rt)?;
+    show_wrong(&rt)?;
+    show_plain(&rt)?;
+    show_longest(&rt)
 }

@@ -9,10 +9,10 @@ use Rattle.wire.proofs.Tests.{kept}
 use Rattle.streams.proofs.show.Goals as goal
 
 pub put_values-requires : goal.put_values-requires
-put_values-requires c = (([], inr (refl, refl)), omega arith)
+put_values-requires g c = (([], inr (refl, refl)), omega arith)
 
 pub compile-requires : goal.compile-requires
-compile-requires c = (search rules, omega arith, kept c.section2_right.ensures c.if-not-section2_right.false)
+compile-requires g c = (search rules, omega arith, kept c.section2_right.ensures c.if-not-section2_right.false)
 
 pub put_values-requires-2 : goal.put_values-requires-2
-put_values-requires-2 c = ((_, inl c.compile.ensures), omega arith)
+put_values-requires-2 g c = ((_, inl c.compile.ensures), omega arith)
