@@ -1,13 +1,10 @@
-use Prim.Native.Nat.{◌-◌}
 use mathlib.Core.Path.{◌≡◌, ◌∙◌}
 use native.Mathlib.Omega.{arith}
-use lib.ListN.{length}
 use Rattle.wire.proofs.Tests.{kept, broken}
 use Rattle.index.specs.Index.{smaller}
 use Rattle.index.specs.InnerSteps.{seen, date_in}
-use Rattle.index.proofs.Walk.{Shown, shown_at_lem, Going, going_from, going_on, going_stop, going_end, whole_entry, none_past, going_whole}
+use Rattle.index.proofs.Walk.{Shown, shown_at_lem, going_from, going_on, going_stop, going_end, whole_entry, none_past, going_whole}
 use Rattle.index.proofs.Less.{decided_alone}
-use borrow.Author.Rules.{rules}
 use Rattle.index.proofs.behind_smaller.Goals as goal
 use Rattle.index.proofs.behind_smaller.Goals.{After-entry_at-e, After-is_before}
 
@@ -19,7 +16,7 @@ entry_at-e-requires c = whole_entry _ _ (going_whole _ _ _ _ c.loop-at.invariant
 
 -- the entry that is there
 there : (c : After-entry_at-e) → Shown c.args.s.now c.loop-at.at c.entry_at-e.result
-there c = shown_at_lem _ _ _ c.entry_at-e.ensures (entry-at-requires c c.entry_at-e.lifetimes)
+there c = shown_at_lem _ _ _ c.entry_at-e.ensures (whole_entry _ _ (going_whole _ _ _ _ c.loop-at.invariant c.requires) (omega arith))
 
 -- and what the call says of it
 asked : (c : After-is_before) → let a = c.args in

@@ -5,7 +5,6 @@ use native.Mathlib.Omega.{arith}
 use lib.ListN.{length, drop, length-drop}
 use Rattle.index.specs.Entry.{head_size, head_number}
 use Rattle.index.proofs.Heads.{head_number_lem, entry_fits, step_shown}
-use borrow.Author.Rules.{rules}
 use Rattle.index.proofs.entry_at.Goals as goal
 use Rattle.index.proofs.entry_at.Goals.{After-after-size, After-head_at-w, Start}
 
@@ -32,14 +31,17 @@ number c p q x h e =
 
 -- the first of them is the identifier's length
 size : (c : After-after-size) → let a = c.args in c.after-size.result ≡ head_number (drop a.at a.s.now) 0 6
-size c = number c 0 6 c.after-size.result (omega arith) c.after-size.ensures
+size c =
+    let a = c.args in
+    let t = drop a.at a.s.now in
+    c.after-size.ensures ∙ head_number_lem t c.head_at-w.result 0 6 c.head_at-w.ensures (omega (arith, entry_fits t c.requires)) (omega arith)
 
 pub overflow_add-result : goal.overflow_add-result
 overflow_add-result c = let h = fits (goal.at.overflow_add-result c).Start in
     omega (arith, size (goal.at.overflow_add-result c).After-after-size)
 
 pub returns : goal.returns
-returns c = 
+returns c =
     let a = c.args in
     rw (
       size (goal.at.returns c).After-after-size,

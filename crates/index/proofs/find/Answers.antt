@@ -7,15 +7,14 @@ use lib.ListN.{length}
 use Rattle.fields.specs.declared.Place.{Place}
 use Rattle.fields.specs.Lookup.{refusal_of, part_start, part_bytes}
 use Rattle.index.proofs.Found.{found_inside}
-use borrow.Author.Rules.{rules}
 use Rattle.index.proofs.find.Goals as goal
 use Rattle.index.proofs.find.Goals.{In-At}
 
 -- in the arm `At(start, size)`: the part lies within the index
-inside : (c : In-At) → let g = c.start-1.given.0 in g.0 + g.1.0 ≤ length c.args.lent.now
+inside : (c : In-At) → c.in-At.start + c.in-At.size ≤ length c.args.lent.now
 inside c =
     let a = c.args in
-    found_inside a.lent.now a.used a.id.now _ _ (sym c.find_place.ensures ∙ c.start-1.given.1)
+    found_inside a.lent.now a.used a.id.now _ _ (sym c.in-At.ensures)
 
 pub overflow_add-end : goal.overflow_add-end
 overflow_add-end c = let h = inside c in omega arith
@@ -25,11 +24,11 @@ slice_bounds-result-end c = inside c
 
 pub returns-in-At : goal.returns-in-At
 returns-in-At c = let a = c.args in
-    let h = sym c.find_place.ensures ∙ c.start-1.given.1 in
-    record { number = sym (ap refusal_of h); bytes = sym (ap (part_bytes a.lent.now) h); itself = (refl, sym (ap (λ (p : Place). part_start p + a.lent.ref_ptr.1) h)); }
+    let h = sym c.in-At.ensures in
+    record { number = sym (ap refusal_of h); bytes = sym (ap (part_bytes a.lent.now) h); itself = (refl, sym (ap (λ (p : Place). part_start p + a.lent.ref_ptr.1) h)) }
 
 pub returns-in-Refused : goal.returns-in-Refused
 returns-in-Refused c = let a = c.args in
-    let h = sym c.find_place.ensures ∙ c.number-1.given.1 in
-    let start = ap (λ (p : Place). part_start p + a.lent.ptr.1) h in
-    record { number = sym (ap refusal_of h); bytes = sym (ap (part_bytes a.lent.now) h); itself = (refl, sym (start ∙ zero-add _)); }
+    let h = sym c.in-Refused.ensures in
+    let start = ap (λ (p : Place). part_start p + a.lent.ref_ptr.1) h in
+    record { number = sym (ap refusal_of h); bytes = sym (ap (part_bytes a.lent.now) h); itself = (refl, sym (start ∙ zero-add _)) }

@@ -7,7 +7,6 @@ use lib.ListN.{length, take, drop, length-take}
 use Rattle.bits.specs.Bits.{bits_in}
 use Rattle.bits.specs.InnerWindow.{Window}
 use Rattle.index.proofs.Heads.{head_window}
-use borrow.Author.Rules.{rules}
 use Rattle.index.proofs.head_at.Goals as goal
 
 pub window-requires : goal.window-requires

@@ -4,7 +4,6 @@ use borrow.Author.Tests.{le-leb, lt-leb, eq-eqb, ne_eqb}
 use native.Mathlib.Omega.{arith}
 use Rattle.wire.proofs.Tests.{kept, broken}
 use Rattle.index.specs.InnerSteps.{head_right}
-use borrow.Author.Rules.{rules}
 use Rattle.index.proofs.head_right.Goals as goal
 
 pub returns-then-size-lt1 : goal.returns-then-size-lt1

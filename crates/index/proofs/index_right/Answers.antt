@@ -1,11 +1,10 @@
 -- The test and the call are the rule's two parts.
-use mathlib.Core.Path.{◌≡◌, sym}
+use mathlib.Core.Path.{sym}
 use native.Mathlib.Omega.{arith}
 use lib.ListN.{length}
 use lib.Seq.{length-take-le}
 use borrow.Author.Tests.{le-leb, lt-leb}
 use Rattle.index.specs.Index.{index_right}
-use borrow.Author.Rules.{rules}
 use Rattle.index.proofs.index_right.Goals as goal
 
 pub returns-then-lent-used : goal.returns-then-lent-used

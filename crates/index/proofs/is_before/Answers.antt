@@ -1,17 +1,13 @@
-use Prim.Native.Nat.{◌-◌, ◌≤◌}
-use mathlib.Core.Path.{◌≡◌, refl, sym, ◌∙◌}
+use mathlib.Core.Path.{refl, sym, ◌∙◌}
 use native.Mathlib.Omega.{arith}
-use lib.ListN.{drop}
-use Rattle.index.specs.InnerSteps.{before_by}
 use Rattle.index.proofs.Words.{words_equal, words_differ}
-use borrow.Author.Rules.{rules}
 use Rattle.index.proofs.is_before.Goals as goal
 
 pub loop-i-init : goal.loop-i-init
 loop-i-init c = (omega arith, refl)
 
 pub returns-then-v-w : goal.returns-then-v-w
-returns-then-v-w c = 
+returns-then-v-w c =
     let a = c.args in
     let v = c.word-v.ensures in
     let w = c.word-w.ensures in
@@ -19,7 +15,7 @@ returns-then-v-w c =
     rw (v, w) (sym decides ∙ c.loop-i.invariant.1)
 
 pub loop-i-preserved : goal.loop-i-preserved
-loop-i-preserved c = 
+loop-i-preserved c =
     let a = c.args in
     let equal = sym c.word-v.ensures ∙ c.if-v-w.false ∙ c.word-w.ensures in
     let turn = words_equal a.a.now a.b.now c.loop-i.i _ c.bytes_fit.ensures c.bytes_fit-2.ensures (omega arith) (omega arith) equal in

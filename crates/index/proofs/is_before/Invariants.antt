@@ -1,12 +1,9 @@
 -- Identifiers are compared word by word: as long as the words agree, what is left decides; the first that differ decide. The rest is
 -- compared byte by byte.
 use Prim.Native.Nat.{◌-◌, ◌≤◌}
-use mathlib.Core.Path.{◌≡◌, refl, sym, ◌∙◌}
-use native.Mathlib.Omega.{arith}
+use mathlib.Core.Path.{◌≡◌}
 use lib.ListN.{drop}
 use Rattle.index.specs.InnerSteps.{before_by}
-use Rattle.index.proofs.Words.{words_equal, words_differ}
-use borrow.Author.Rules.{rules}
 use Rattle.index.proofs.is_before.Given as goal
 
 abbrev pub invariant-loop-i : goal.invariant-loop-i

@@ -1,7 +1,5 @@
 -- The first of year, month and day that differ decides.
-use mathlib.Core.Path.{◌≡◌, sym, ◌∙◌}
-use mathlib.Core.List.{[], ◌∷◌}
-use Rattle.index.specs.InnerSteps.{date_in}
+use mathlib.Core.Path.{sym, ◌∙◌}
 use Rattle.index.proofs.Less.{less_equal, less_differ, less_last}
 use Rattle.index.proofs.is_earlier.Goals as goal
 

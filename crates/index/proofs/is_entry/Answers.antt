@@ -8,8 +8,6 @@ use Rattle.wire.specs.RuleWords.{every}
 use Rattle.index.specs.Entry.{head_number, is_entry}
 use Rattle.index.specs.InnerSteps.{head_right}
 use Rattle.index.proofs.Heads.{not_nul, head_number_lem, nul_places, entry_by, entry_cut}
-use borrow.Author.Tests.{not-true, not-false}
-use borrow.Author.Rules.{rules}
 use Rattle.index.proofs.is_entry.Goals as goal
 use Rattle.index.proofs.is_entry.Goals.{After-after-size, After-head_at-w, After-no_nul}
 
@@ -22,7 +20,10 @@ number c p q x h e =
 
 -- the first of them is the identifier's length
 size : (c : After-after-size) → let a = c.args in c.after-size.result ≡ head_number (drop a.at a.s.now) 0 6
-size c = number c 0 6 c.after-size.result (omega arith) c.after-size.ensures
+size c =
+    let a = c.args in
+    c.after-size.ensures
+    ∙ head_number_lem (drop a.at a.s.now) c.head_at-w.result 0 6 c.head_at-w.ensures (omega (arith, length-drop a.at a.s.now)) (omega arith)
 
 -- the identifier's bytes are asked place by place
 nul_free : (c : After-no_nul) → let a = c.args in
@@ -33,13 +34,13 @@ nul_free c =
 
 -- where the identifier is there, it and the rules of the numbers decide
 decided : (c : After-no_nul) → let a = c.args in let t = drop a.at a.s.now in
-    is_entry t
+    c.after-size.result ≡ head_number t 0 6 → c.no_nul.result ≡ every not_nul (take c.after-size.result (drop 5 t))
+    → is_entry t
     ≡ head_right c.after-size.result (head_number t 22 4) (head_number t 26 5) (head_number t 31 8) (head_number t 39 1)
     && c.no_nul.result
-decided c =
+decided c n free =
     let a = c.args in
-    let n = size c in
-    rw (nul_free c, n) (entry_by (drop a.at a.s.now) (omega (arith, n, length-drop a.at a.s.now)))
+    rw (free, n) (entry_by (drop a.at a.s.now) (omega (arith, n, length-drop a.at a.s.now)))
 
 pub returns-then-s-at : goal.returns-then-s-at
 returns-then-s-at c = let a = c.args in
@@ -54,15 +55,15 @@ returns-then-s-start c = let a = c.args in
     sym (entry_cut (drop a.at a.s.now) (omega (arith, size (goal.at.returns-then-s-start c).After-after-size, length-drop a.at a.s.now)))
 
 pub returns-then-not-no_nul : goal.returns-then-not-no_nul
-returns-then-not-no_nul c = sym (rw (not-true c.no_nul.result c.if-not-no_nul.true, and-false) at (decided (goal.at.returns-then-not-no_nul c).After-no_nul))
+returns-then-not-no_nul c = sym (rw (c.if-not-no_nul.true, and-false) at (decided (goal.at.returns-then-not-no_nul c).After-no_nul (size (goal.at.returns-then-not-no_nul c).After-after-size) (nul_free (goal.at.returns-then-not-no_nul c).After-no_nul)))
 
 pub returns : goal.returns
-returns c = 
-    let free = not-false c.no_nul.result c.if-not-no_nul.false in
+returns c =
+    let free = c.if-not-no_nul.false in
     rw (
       number (goal.at.returns c).After-head_at-w 22 4 _ (omega arith) c.after-month.ensures,
       number (goal.at.returns c).After-head_at-w 26 5 _ (omega arith) c.after-day.ensures,
       number (goal.at.returns c).After-head_at-w 31 8 _ (omega arith) c.after-leads.ensures,
       number (goal.at.returns c).After-head_at-w 39 1 _ (omega arith) c.after.ensures,
     ) at c.head_right.ensures
-    ∙ sym (rw (free, and-true) at (decided (goal.at.returns c).After-no_nul))
+    ∙ sym (rw (free, and-true) at (decided (goal.at.returns c).After-no_nul (size (goal.at.returns c).After-after-size) (nul_free (goal.at.returns c).After-no_nul)))

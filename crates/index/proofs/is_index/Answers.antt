@@ -1,11 +1,9 @@
-use Prim.Native.Nat.{◌-◌}
 use mathlib.Core.Path.{sym, ◌∙◌}
 use native.Mathlib.Omega.{arith}
 use lib.ListN.{length}
 use borrow.Author.Tests.{eq-eqb, ne_eqb}
 use Rattle.wire.proofs.Tests.{kept, broken}
-use Rattle.index.proofs.Walk.{Shown, shown_at_lem, none_there, none_past, Judged, judged_from, judged_on, judged_before, judged_end}
-use borrow.Author.Rules.{rules}
+use Rattle.index.proofs.Walk.{Shown, shown_at_lem, none_there, none_past, judged_from, judged_on, judged_before, judged_end}
 use Rattle.index.proofs.is_index.Goals as goal
 use Rattle.index.proofs.is_index.Goals.{After-entry_at-e}
 
@@ -23,7 +21,7 @@ entry_at-e-requires c = kept c.is_entry.ensures c.if-not-is_entry.false
 
 -- the next entry
 there : (c : After-entry_at-e) → Shown c.args.s.now c.loop-last.last.next c.entry_at-e.result
-there c = shown_at_lem _ _ _ c.entry_at-e.ensures (entry-at-requires c c.entry_at-e.lifetimes)
+there c = shown_at_lem _ _ _ c.entry_at-e.ensures (kept c.is_entry.ensures c.if-not-is_entry.false)
 
 pub returns-then-stands_before : goal.returns-then-stands_before
 returns-then-stands_before c = sym (judged_before _ _ _ c.loop-last.invariant (there (goal.at.returns-then-stands_before c).After-entry_at-e) (sym c.stands_before.ensures ∙ c.if-stands_before.true))

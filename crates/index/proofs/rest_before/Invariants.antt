@@ -1,13 +1,9 @@
 -- Identifiers are compared from a place on: as long as they agree, what is left decides; the first bytes that differ decide, or the
 -- end of one; where both end, the days do.
 use Prim.Native.Nat.{◌-◌, ◌≤◌}
-use mathlib.Core.Path.{◌≡◌, refl, sym, ◌∙◌}
-use native.Mathlib.Numerals.{add-one}
-use native.Mathlib.Omega.{arith}
+use mathlib.Core.Path.{◌≡◌}
 use lib.ListN.{drop}
 use Rattle.index.specs.InnerSteps.{before_by}
-use Rattle.index.proofs.Less.{decided_turn, decided_here, decided_ended, decided_same}
-use borrow.Author.Rules.{rules}
 use Rattle.index.proofs.rest_before.Given as goal
 
 abbrev pub invariant-loop-i : goal.invariant-loop-i

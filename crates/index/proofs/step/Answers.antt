@@ -2,7 +2,6 @@
 use mathlib.Core.Path.{◌∙◌}
 use Rattle.wire.proofs.Tests.{kept, broken}
 use Rattle.index.proofs.Heads.{step_none}
-use borrow.Author.Rules.{rules}
 use Rattle.index.proofs.step.Goals as goal
 
 pub returns-then-not-is_entry : goal.returns-then-not-is_entry
