@@ -16,12 +16,12 @@ loop-i-smaller c = simp length-set (omega arith)
 
 pub loop-i-preserved : goal.loop-i-preserved
 loop-i-preserved c = let l = c.loop-i in (
-      simp length-set (omega arith),
-      simp length-set l.invariant.1,
-      take_more l.work l.i (pos 0) (omega arith)
-          ∙ ap (λ (xs : List ℤ). xs ++ (pos 0 ∷ [])) l.invariant.2
-          ∙ replicate-append-replicate l.i 1 (pos 0),
-    )
+  simp length-set (omega arith),
+  simp length-set l.invariant.1,
+  take_more l.work l.i (pos 0) (omega arith)
+      ∙ ap (λ (xs : List ℤ). xs ++ (pos 0 ∷ [])) l.invariant.2
+      ∙ replicate-append-replicate l.i 1 (pos 0),
+)
 
 pub shape_of-work : goal.shape_of-work
 shape_of-work c = c.loop-i.invariant.1

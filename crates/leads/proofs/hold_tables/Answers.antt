@@ -21,14 +21,14 @@ returns-then-not-is_present c = (omega arith, inr (simp (broken c.is_present.ens
 
 pub compile-requires : goal.compile-requires
 unfolding tables_right
-compile-requires c = 
+compile-requires c =
     let r = c.args.rec.now in
     let here = kept c.is_present.ensures c.if-not-is_present.false in
     let judged = asked (present r 2) (section2_right 1 (section_of r 2) 16) c.requires.1 here in
     (c.requires.0, omega arith, ap (λ (s : List ℕ). section2_right 1 s 16) c.section_of.ensures ∙ judged)
 
 pub returns : goal.returns
-returns c = 
+returns c =
     let here = kept c.is_present.ensures c.if-not-is_present.false in
     let section = c.section_of.ensures in
     let ready = c.compile.ensures in

@@ -31,7 +31,7 @@ returns c xs e = let a = c.args in
       c.step_of.ensures.0 ∙ ap (λ (s : List ℕ). step_of s) six,
       c.interval_of.ensures.0 ∙ ap (λ (s : List ℕ). interval_of s) six,
       c.first_sample.ensures.0 ∙ ap (λ (s : List ℕ). first_sample s a.k) three,
-      count c,
+      count (goal.at.returns c).After-sample_count,
       e,
       c.requires.2,
     )

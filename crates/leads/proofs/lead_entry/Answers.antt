@@ -27,6 +27,6 @@ pub entry_at-requires : goal.entry_at-requires
 entry_at-requires c = let s = sound_here c in omega (arith, s.last, (leads_right _ s.leads).most)
 
 pub returns : goal.returns
-returns c = 
+returns c =
     let a = c.args in
     c.entry_at.ensures ∙ ap (λ (n : ℕ). entry_of a.rec.now (a.place - 1) n) (sym c.if-refusal-ne0.false ∙ c.lead_refusal-refusal.ensures)

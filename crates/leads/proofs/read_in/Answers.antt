@@ -22,9 +22,17 @@ pub slice_bounds-lead_out-end : goal.slice_bounds-lead_out-end
 slice_bounds-lead_out-end c = omega (arith, count c, c.requires.k_in_bounds.0)
 
 pub slice_bounds-lead_out-end-2 : goal.slice_bounds-lead_out-end-2
-slice_bounds-lead_out-end-2 c = sym (length-take-le _ _ (slice-relend-prefix-lead-out c))
+slice_bounds-lead_out-end-2 c =
+    let few = count (goal.at.slice_bounds-lead_out-end-2 c).After-sample_count-n in
+    let fits : c.sample_count-n.result ≤ length c.args.room.now = omega (arith, few, c.requires.k_in_bounds.0) in
+    sym (length-take-le _ _ fits)
 
 pub lead_out-requires : goal.lead_out-requires
-lead_out-requires c = 
-    let room = length-take-le _ _ (slice-relend-prefix-lead-out c) in
-    record { compiled_or_none = c.requires.compiled_or_none; readable = c.requires.readable; room_len = (room ∙ count (goal.at.lead_out-requires c).After-sample_count-n, c.requires.k_in_bounds.1); }
+lead_out-requires c =
+    let few = count (goal.at.lead_out-requires c).After-sample_count-n in
+    let fits : c.sample_count-n.result ≤ length c.args.room.now = omega (arith, few, c.requires.k_in_bounds.0) in
+    record {
+      compiled_or_none = c.requires.compiled_or_none;
+      readable = c.requires.readable;
+      room_len = (length-take-le _ _ fits ∙ few, c.requires.k_in_bounds.1);
+    }

@@ -24,8 +24,13 @@ slice_bounds-read_in-end c = let held = c.hold_tables-held in
     sym (length-take-le _ _ inside)
 
 pub read_in-requires : goal.read_in-requires
-read_in-requires c = 
-    record { compiled_or_none = c.hold_tables-held.ensures.1; readable = c.requires.readable; k_in_bounds = (omega (arith, count (goal.at.read_in-requires c).After-sample_count, c.requires.readable.count), c.requires.k_in_bounds); }
+read_in-requires c =
+    let few = count (goal.at.read_in-requires c).After-sample_count in
+    record {
+      compiled_or_none = c.hold_tables-held.ensures.1;
+      readable = c.requires.readable;
+      k_in_bounds = (omega (arith, few, c.requires.readable.count), c.requires.k_in_bounds);
+    }
 
 pub slice_bounds-read_in-end-2 : goal.slice_bounds-read_in-end-2
 slice_bounds-read_in-end-2 c = let held = c.hold_tables-held in
@@ -33,5 +38,10 @@ slice_bounds-read_in-end-2 c = let held = c.hold_tables-held in
     sym (length-take-le _ _ inside)
 
 pub read_in-requires-2 : goal.read_in-requires-2
-read_in-requires-2 c = 
-    record { compiled_or_none = c.hold_tables-held.ensures.1; readable = c.requires.readable; k_in_bounds = (omega (arith, count (goal.at.read_in-requires-2 c).After-sample_count, c.requires.readable.count), c.requires.k_in_bounds); }
+read_in-requires-2 c =
+    let few = count (goal.at.read_in-requires-2 c).After-sample_count in
+    record {
+      compiled_or_none = c.hold_tables-held.ensures.1;
+      readable = c.requires.readable;
+      k_in_bounds = (omega (arith, few, c.requires.readable.count), c.requires.k_in_bounds);
+    }

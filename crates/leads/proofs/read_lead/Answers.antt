@@ -44,13 +44,18 @@ returns-then-refusal-ne0 c = let a = c.args in
     let room = length a.out.now in
     let n = c.read_refusal-refusal.result in
     let e = c.read_refusal-refusal.ensures in
-    let t = read_refused r a.place room (length a.work.now) n e c.if-refusal-ne0.true in record { answer = c.refused.ensures r (a.place - 1) ∙ ap (λ (u : Trace). lead_of r (a.place - 1) u) (sym t); samples = ap (λ (u : Trace). out_after u a.out.now) (sym t); cleared = work_refused r a.place room n a.work.now e c.if-refusal-ne0.true; }
+    let t = read_refused r a.place room (length a.work.now) n e c.if-refusal-ne0.true in record {
+      answer = c.refused.ensures r (a.place - 1) ∙ ap (λ (u : Trace). lead_of r (a.place - 1) u) (sym t);
+      samples = ap (λ (u : Trace). out_after u a.out.now) (sym t);
+      cleared = work_refused r a.place room n a.work.now e c.if-refusal-ne0.true;
+    }
 
 pub overflow_sub-place : goal.overflow_sub-place
 overflow_sub-place c = (here c).0
 
 pub read_into-rebuilt-requires : goal.read_into-rebuilt-requires
-read_into-rebuilt-requires c = record { readable = (here (goal.at.read_into-rebuilt-requires c).Else-refusal-ne0).1; k_in_bounds = (here (goal.at.read_into-rebuilt-requires c).Else-refusal-ne0).2; }
+read_into-rebuilt-requires c = let h = here (goal.at.read_into-rebuilt-requires c).Else-refusal-ne0 in
+    record { readable = h.1; k_in_bounds = h.2 }
 
 pub returns-then-rebuilt-ne0 : goal.returns-then-rebuilt-ne0
 returns-then-rebuilt-ne0 c = let a = c.args in
@@ -58,7 +63,11 @@ returns-then-rebuilt-ne0 c = let a = c.args in
     let k = a.place - 1 in
     let got = c.read_into-rebuilt in
     let on = read (goal.at.returns-then-rebuilt-ne0 c).Else-refusal-ne0 in
-    let t = trace_fault r k got.result.fault got.ensures.traced.0.0 got.ensures.traced.0.1 c.if-rebuilt-ne0.true in record { answer = c.refused-then-rebuilt-ne0.ensures r k ∙ ap (λ (u : Trace). lead_of r k u) (t ∙ sym on); samples = got.ensures.traced.1 ∙ ap (λ (u : Trace). out_after u a.out.now) (sym on); cleared = got.ensures.traced.2 ∙ cleared (goal.at.returns-then-rebuilt-ne0 c).Else-refusal-ne0; }
+    let t = trace_fault r k got.result.fault got.ensures.traced.0.0 got.ensures.traced.0.1 c.if-rebuilt-ne0.true in record {
+      answer = c.refused-then-rebuilt-ne0.ensures r k ∙ ap (λ (u : Trace). lead_of r k u) (t ∙ sym on);
+      samples = got.ensures.traced.1 ∙ ap (λ (u : Trace). out_after u a.out.now) (sym on);
+      cleared = got.ensures.traced.2 ∙ cleared (goal.at.returns-then-rebuilt-ne0 c).Else-refusal-ne0;
+    }
 
 pub overflow_sub-place-2 : goal.overflow_sub-place-2
 overflow_sub-place-2 c = (here (goal.at.overflow_sub-place-2 c).Else-refusal-ne0).0
@@ -75,4 +84,8 @@ returns c = let a = c.args in
     let got = c.read_into-rebuilt in
     let on = read (goal.at.returns c).Else-refusal-ne0 in
     let xs = got.ensures.traced.0.0 in
-    let t = trace_rebuilt r k got.result.fault xs got.ensures.traced.0.1 c.if-rebuilt-ne0.false in record { answer = c.lead_at.ensures xs (trace_length r k xs t) ∙ ap (λ (u : Trace). lead_of r k u) (t ∙ sym on); samples = got.ensures.traced.1 ∙ ap (λ (u : Trace). out_after u a.out.now) (sym on); cleared = got.ensures.traced.2 ∙ cleared (goal.at.returns c).Else-refusal-ne0; }
+    let t = trace_rebuilt r k got.result.fault xs got.ensures.traced.0.1 c.if-rebuilt-ne0.false in record {
+      answer = c.lead_at.ensures xs (trace_length r k xs t) ∙ ap (λ (u : Trace). lead_of r k u) (t ∙ sym on);
+      samples = got.ensures.traced.1 ∙ ap (λ (u : Trace). out_after u a.out.now) (sym on);
+      cleared = got.ensures.traced.2 ∙ cleared (goal.at.returns c).Else-refusal-ne0;
+    }

@@ -41,14 +41,15 @@ enough : (c : Else-out-sample_count) → let a = c.args in
     leb (sample_count_at a.rec.now (a.place - 1)) a.out ≡ true
 enough c =
     let a = c.args in
-    le-leb (sample_count_at a.rec.now (a.place - 1)) a.out (omega (arith, count c, c.if-out-sample_count.false))
+    let count = c.sample_count.ensures.0 ∙ ap (λ (s : List ℕ). sample_count s (a.place - 1)) c.section_of.ensures in
+    le-leb (sample_count_at a.rec.now (a.place - 1)) a.out (omega (arith, count, c.if-out-sample_count.false))
 
 pub returns-then-not-has_beat : goal.returns-then-not-has_beat
 unfolding room_right
 returns-then-not-has_beat c = simp (enough (goal.at.returns-then-not-has_beat c).Else-out-sample_count, broken c.has_beat.ensures c.if-not-has_beat.true)
 
 pub beat_sample_count-requires : goal.beat_sample_count-requires
-beat_sample_count-requires c = 
+beat_sample_count-requires c =
     let r = c.args.rec.now in
     interval_some _ _ (sound_beat r (sound r c.args.place c.requires).beat (kept c.has_beat.ensures c.if-not-has_beat.false)).0
 
