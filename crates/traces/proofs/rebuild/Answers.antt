@@ -25,21 +25,21 @@ use Rattle.traces.proofs.rebuild.Goals.{After-next_sample, In-Sample}
 
 pub loop-j-init : goal.loop-j-init
 loop-j-init c = let a = c.args in (
-      omega arith,
-      refl,
-      omega (arith, c.new-c.ensures),
-      omega arith,
-      omega arith,
-      λ tables held.
-          room_start tables a.order (length a.room.now) c.new-c.result.at c.new-c.result.table (bits_in a.s.now)
-          c.new-c.ensures.0
-          c.new-c.ensures.1,
-      λ tables held.
-          sum_start tables (length a.room.now) c.new-c.result.at c.new-c.result.table c.new-c.result.compared (bits_in a.s.now)
-          c.new-c.ensures.0
-          c.new-c.ensures.1
-          c.new-c.ensures.2,
-    )
+  omega arith,
+  refl,
+  omega (arith, c.new-c.ensures),
+  omega arith,
+  omega arith,
+  λ tables held.
+      room_start tables a.order (length a.room.now) c.new-c.result.at c.new-c.result.table (bits_in a.s.now)
+      c.new-c.ensures.0
+      c.new-c.ensures.1,
+  λ tables held.
+      sum_start tables (length a.room.now) c.new-c.result.at c.new-c.result.table c.new-c.result.compared (bits_in a.s.now)
+      c.new-c.ensures.0
+      c.new-c.ensures.1
+      c.new-c.ensures.2,
+)
 
 -- what the stream is rebuilt to is what the step came to, behind the samples in the room
 step : (c : After-next_sample) →
@@ -72,21 +72,21 @@ summed c x d is tables held =
 -- the sample that a step gave is of 16 bits, and its cursor is within the stream
 given : (c : In-Sample) →
     let bits = length c.args.s.now * 8 in
-    (c.x-1.given.0.0 < 65536) × Within bits c.x-1.given.0.1.0
+    (c.in-Sample.x < 65536) × Within bits c.in-Sample.d
 given c =
     let bits = length c.args.s.now * 8 in
-    subst (SampledWithin bits) c.x-1.given.1 c.next_sample.ensures.fits
+    subst (SampledWithin bits) c.in-Sample.is c.next_sample.ensures.fits
 
 pub lowered-requires : goal.lowered-requires
 lowered-requires c = omega (arith, (given c).0)
 
 pub loop-j-preserved : goal.loop-j-preserved
-loop-j-preserved c = 
+loop-j-preserved c =
     let a = c.args in
     let l = c.loop-j in
     let left = length a.room.now - (l.j + 1) in
-    let x = from_zero 32768 c.x-1.given.0.0 in
-    let d = c.x-1.given.0.1.0 in
+    let x = from_zero 32768 c.in-Sample.x in
+    let d = c.in-Sample.d in
     let same : to_z w16 (of_z w16 c.lowered.result) ≡ c.lowered.result = search rules in
     rw (same, c.lowered.ensures) (
       omega (arith, c),
@@ -101,25 +101,26 @@ loop-j-preserved c =
           l.j
           x
           (omega (arith, c))
-          (step (goal.at.loop-j-preserved c).After-next_sample (Sample c.x-1.given.0.0 d) c.x-1.given.1 tables held),
+          (step (goal.at.loop-j-preserved c).After-next_sample (Sample c.in-Sample.x d) c.in-Sample.is tables held),
       λ tables held.
-          summed (goal.at.loop-j-preserved c).After-next_sample c.x-1.given.0.0 d c.x-1.given.1 tables held,
+          summed (goal.at.loop-j-preserved c).After-next_sample c.in-Sample.x d c.in-Sample.is tables held,
     )
 
 pub returns-in-Fault : goal.returns-in-Fault
-returns-in-Fault c = 
+returns-in-Fault c =
     let a = c.args in
     let l = c.loop-j in
-    let number = c.number-1.given.0.0 in
-    let is = c.number-1.given.1 in
-    let some : 1 ≤ number = subst (SampledWithin (length a.s.now * 8)) is c.next_sample.ensures.fits in record { traced = (λ tables held. room_fault number l.room some ∙ sym (step (goal.at.returns-in-Fault c).After-next_sample (Fault number) is tables held), l.invariant.1); summed = (λ tables held e. absurd (omega arith), omega arith); }
+    let number = c.in-Fault.number in
+    let is = c.in-Fault.is in
+    let some : 1 ≤ number = subst (SampledWithin (length a.s.now * 8)) is c.next_sample.ensures.fits in record { traced = (λ tables held. room_fault number l.room some ∙ sym (step (goal.at.returns-in-Fault c).After-next_sample (Fault number) is tables held), l.invariant.1); summed = (λ tables held e. absurd (omega arith), omega arith) }
 
 pub returns-then-s-c-le-MOST_LEFT_OVER : goal.returns-then-s-c-le-MOST_LEFT_OVER
 returns-then-s-c-le-MOST_LEFT_OVER c = let a = c.args in
     let l = c.loop-j in
     let few = length_left a.s.now l.c.at in
     let rest = drop l.c.at (bits_in a.s.now) in
-    let left = length a.room.now - l.j in record { traced = (
+    let left = length a.room.now - l.j in record {
+      traced = (
         λ tables held.
             room_end tables a.order left l.j (from_zero 32768 l.last) (from_zero 32768 l.other) l.c.table rest
             (omega arith)
@@ -128,12 +129,15 @@ returns-then-s-c-le-MOST_LEFT_OVER c = let a = c.args in
             (omega arith)
             ∙ sym (l.invariant.5 tables held),
         l.invariant.1,
-      ); summed = (λ tables held e. sum_end tables left l.c.table rest (omega arith) (l.invariant.6 tables held), omega (arith, l.invariant.2)); }
+      );
+      summed = (λ tables held e. sum_end tables left l.c.table rest (omega arith) (l.invariant.6 tables held), omega (arith, l.invariant.2));
+    }
 
 pub returns : goal.returns
 returns c = let a = c.args in
     let l = c.loop-j in
-    let many = length_left a.s.now l.c.at in record { traced = (
+    let many = length_left a.s.now l.c.at in record {
+      traced = (
         λ tables held.
             room_over tables a.order (length a.room.now - l.j) l.j (from_zero 32768 l.last) (from_zero 32768 l.other) l.c.table
             (drop l.c.at (bits_in a.s.now))
@@ -142,4 +146,6 @@ returns c = let a = c.args in
             (omega (arith, many))
             ∙ sym (l.invariant.5 tables held),
         l.invariant.1,
-      ); summed = (λ tables held e. absurd (omega arith), omega arith); }
+      );
+      summed = (λ tables held e. absurd (omega arith), omega arith);
+    }
