@@ -1,12 +1,8 @@
 -- The stream is rebuilt to the samples that are in the room, before what is rebuilt from the cursor on.
-use Prim.Native.Nat.{ℕ, suc, ◌+◌, ◌-◌, ◌*◌, ◌≤◌, ◌<◌}
-use mathlib.Core.Path.{◌≡◌, refl, sym, subst, ◌∙◌}
+use Prim.Native.Nat.{◌+◌, ◌-◌, ◌*◌, ◌≤◌, ◌<◌}
+use mathlib.Core.Path.{◌≡◌}
 use mathlib.Core.List.{List}
-use native.Mathlib.Omega.{arith}
-use borrow.Author.Rules.{rules}
-use lib.ListN.{length, take, drop, length-set}
-use mir.Syntax.{w16}
-use mir.Val.{to_z, of_z}
+use lib.ListN.{length, take, drop}
 use Rattle.bits.specs.Bits.{bits_in}
 use Rattle.bits.specs.InnerRaised.{from_zero}
 use Rattle.samples.specs.InnerTrace.{before}
@@ -14,13 +10,7 @@ use Rattle.tables.specs.declared.Structure.{Structure}
 use Rattle.compiled.specs.InnerForm.{CompiledOrNone}
 use Rattle.reading.specs.Compared.{compared_from, compared_of}
 use Rattle.reading.specs.InnerCursor.{Within}
-use Rattle.reading.specs.declared.Cursor.{Cursor}
-use Rattle.reading.proofs.Cursors.{length_left}
 use Rattle.traces.specs.Rebuilding.{rebuild_from, rebuild}
-use Rattle.traces.specs.InnerTrace.{trace_from, SampledWithin, SampledSum}
-use Rattle.traces.specs.declared.Sampled.{Sampled}
-use Rattle.traces.specs.declared.Sampled.TheVariants.{Sample, Fault}
-use Rattle.traces.proofs.Laws.{sum_start, sum_end, room_start, room_turn, room_fault, room_end, room_over}
 use Rattle.traces.proofs.rebuild.Given as goal
 
 abbrev pub invariant-loop-j : goal.invariant-loop-j
