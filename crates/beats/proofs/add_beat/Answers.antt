@@ -1,4 +1,3 @@
-use Prim.Native.Nat.{◌-◌}
 use mathlib.Core.Path.{◌∙◌}
 use native.Mathlib.Omega.{arith}
 use borrow.Author.Rules.{rules}
@@ -7,7 +6,7 @@ use lib.ListN.{length, get_or}
 use mir.Syntax.{w16}
 use mir.ValLaws.{to_z-of_z}
 use Rattle.beats.proofs.Laws.{beat_right_lem}
-use Rattle.beats.proofs.Turns.{Reached, reached_none, reached_all, Turn, turn_low, turn_high, turn_more}
+use Rattle.beats.proofs.Turns.{reached_none, reached_all, Turn, turn_low, turn_high, turn_more}
 use Rattle.beats.proofs.add_beat.Goals as goal
 use Rattle.beats.proofs.add_beat.Goals.{After-beat_by}
 
@@ -19,9 +18,6 @@ pub zone_for-k-requires : goal.zone_for-k-requires
 zone_for-k-requires c =
     let few = (beat_right_lem (length c.args.beat.now) c.args.s.now c.requires.0).few in
     (omega arith, c.loop-i.invariant.zone)
-
-pub slice_copy_out-raised : goal.slice_copy_out-raised
-slice_copy_out-raised c = omega (arith, c.loop-i.invariant.long)
 
 pub beat_by-requires : goal.beat_by-requires
 beat_by-requires c =

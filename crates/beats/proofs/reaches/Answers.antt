@@ -1,8 +1,6 @@
 -- The tests are those of the type and of the end.
-use Prim.Native.Nat.{ℕ}
-use mathlib.Core.Path.{◌≡◌, ◌∙◌}
+use mathlib.Core.Path.{◌∙◌}
 use native.Mathlib.Omega.{arith}
-use borrow.Author.Rules.{rules}
 use borrow.Author.Tests.{leb-true, leb-false}
 use Rattle.wire.proofs.Laws.{unlike}
 use Rattle.beats.proofs.Laws.{miss_type, miss_end}

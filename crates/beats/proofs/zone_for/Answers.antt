@@ -1,8 +1,5 @@
-use Prim.Native.Nat.{◌-◌, ◌≤◌}
 use mathlib.Core.Path.{refl}
 use native.Mathlib.Omega.{arith}
-use borrow.Author.Rules.{rules}
-use Rattle.beats.specs.InnerZones.{Alike}
 use Rattle.beats.proofs.Laws.{alike_more}
 use Rattle.beats.proofs.zone_for.Goals as goal
 

@@ -1,10 +1,6 @@
 -- Zones that hold no sample from n on are passed over.
 use Prim.Native.Nat.{◌-◌, ◌≤◌}
-use mathlib.Core.Path.{refl}
-use native.Mathlib.Omega.{arith}
-use borrow.Author.Rules.{rules}
 use Rattle.beats.specs.InnerZones.{Alike}
-use Rattle.beats.proofs.Laws.{alike_more}
 use Rattle.beats.proofs.zone_for.Given as goal
 
 abbrev pub invariant-loop-j : goal.invariant-loop-j

@@ -1,9 +1,8 @@
-use Prim.Native.Nat.{◌+◌, ◌-◌, ◌≤◌}
 use mathlib.Core.Path.{◌≡◌, refl, sym, ap, ◌∙◌}
 use mathlib.Core.List.{List, [], ◌∷◌, ◌++◌}
 use native.Mathlib.Omega.{arith}
 use lib.IntN.{ℤ, pos}
-use lib.ListN.{length, take, replicate, length-set, replicate-append-replicate}
+use lib.ListN.{length, length-set, replicate-append-replicate}
 use lib.Seq.{take-length}
 use Rattle.leads.proofs.Laws.{take_more}
 use Rattle.leads.proofs.clear.Goals as goal

@@ -1,12 +1,8 @@
 -- The elements up to i are 0 already.
-use Prim.Native.Nat.{◌+◌, ◌-◌, ◌≤◌}
-use mathlib.Core.Path.{◌≡◌, refl, sym, ap, ◌∙◌}
-use mathlib.Core.List.{List, [], ◌∷◌, ◌++◌}
-use native.Mathlib.Omega.{arith}
-use lib.IntN.{ℤ, pos}
-use lib.ListN.{length, take, replicate, length-set, replicate-append-replicate}
-use lib.Seq.{take-length}
-use Rattle.leads.proofs.Laws.{take_more}
+use Prim.Native.Nat.{◌-◌, ◌≤◌}
+use mathlib.Core.Path.{◌≡◌}
+use lib.IntN.{pos}
+use lib.ListN.{length, take, replicate}
 use Rattle.leads.proofs.clear.Given as goal
 
 abbrev pub invariant-loop-i : goal.invariant-loop-i

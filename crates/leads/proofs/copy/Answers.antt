@@ -1,4 +1,3 @@
-use Prim.Native.Nat.{◌+◌, ◌-◌, ◌≤◌}
 use mathlib.Core.Path.{◌≡◌, refl, sym, ap, ◌∙◌}
 use mathlib.Core.List.{List, [], ◌∷◌, ◌++◌}
 use native.Mathlib.Omega.{arith}
@@ -6,7 +5,7 @@ use mir.Syntax.{w16}
 use mir.Val.{to_z, of_z}
 use borrow.Author.Rules.{rules}
 use lib.IntN.{ℤ, pos}
-use lib.ListN.{length, get_or, take, drop, length-set}
+use lib.ListN.{length, get_or, length-set}
 use native.Mathlib.Numerals.{add-one}
 use lib.Seq.{take-suc, take-length}
 use Rattle.leads.proofs.Laws.{drop_more, take_more, stored_all}

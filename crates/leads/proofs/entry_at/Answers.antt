@@ -2,7 +2,6 @@
 use Prim.Native.Nat.{ℕ}
 use mathlib.Core.Path.{ap, ◌∙◌}
 use mathlib.Core.List.{List}
-use borrow.Author.Rules.{rules}
 use Rattle.entries.specs.Section3.{flags_of, first_sample, last_sample, lead_id}
 use Rattle.entries.specs.Sections5And6.{step_of, interval_of, order_of, byte_count_of}
 use Rattle.leads.proofs.entry_at.Goals as goal

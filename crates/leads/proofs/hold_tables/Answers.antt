@@ -4,7 +4,6 @@ use mathlib.Core.Path.{refl, ap, ◌∙◌}
 use mathlib.Core.Logic.{inr}
 use mathlib.Core.List.{List}
 use native.Mathlib.Omega.{arith}
-use borrow.Author.Rules.{rules}
 use Rattle.wire.proofs.Tests.{kept, broken}
 use Rattle.pointers.specs.Pointers.{present, section_of}
 use Rattle.tables.specs.Section2.{section2_right}

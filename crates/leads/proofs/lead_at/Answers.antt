@@ -3,7 +3,6 @@ use Prim.Native.Nat.{ℕ}
 use mathlib.Core.Path.{◌≡◌, ap, ◌∙◌}
 use mathlib.Core.List.{List}
 use native.Mathlib.Omega.{arith}
-use borrow.Author.Rules.{rules}
 use Rattle.entries.specs.Section3.{flags_of, first_sample, lead_id, sample_count}
 use Rattle.entries.specs.Sections5And6.{step_of, interval_of}
 use Rattle.leads.specs.LeadTrace.{sample_count_at}

@@ -1,8 +1,7 @@
 -- The answer is the smallest of 1 to 10 that applies, with nothing else; where none applies the lead is there.
 use Prim.Native.Nat.{ℕ, ◌-◌}
-use mathlib.Core.Path.{◌≡◌, sym, ap, ◌∙◌}
+use mathlib.Core.Path.{sym, ap, ◌∙◌}
 use native.Mathlib.Omega.{arith}
-use borrow.Author.Rules.{rules}
 use Rattle.entries.proofs.Laws.{leads_right}
 use Rattle.rules.proofs.Laws.{Sound, sound}
 use Rattle.leads.specs.LeadAnswers.{entry_of}

@@ -1,6 +1,5 @@
 -- A fault is handed on; else the samples in the room are the lead's.
 use mathlib.Core.Path.{◌∙◌}
-use borrow.Author.Rules.{rules}
 use Rattle.leads.specs.LeadTrace.{trace_at}
 use Rattle.leads.proofs.Laws.{out_fault, out_rebuilt}
 use Rattle.leads.proofs.lead_out.Goals as goal

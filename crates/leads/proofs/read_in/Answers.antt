@@ -3,9 +3,8 @@ use Prim.Native.Nat.{ℕ, ◌≤◌}
 use mathlib.Core.Path.{◌≡◌, sym, ap, ◌∙◌}
 use mathlib.Core.List.{List}
 use native.Mathlib.Omega.{arith}
-use lib.ListN.{length, take}
+use lib.ListN.{length}
 use lib.Seq.{length-take-le}
-use borrow.Author.Rules.{rules}
 use Rattle.entries.specs.Section3.{sample_count}
 use Rattle.leads.specs.LeadTrace.{sample_count_at}
 use Rattle.leads.proofs.read_in.Goals as goal

@@ -3,7 +3,6 @@ use Prim.Native.Nat.{◌-◌, ◌≤◌}
 use mathlib.Core.Path.{◌≡◌, sym, ap, ◌∙◌}
 use native.Mathlib.Omega.{arith}
 use lib.ListN.{length}
-use borrow.Author.Rules.{rules}
 use Rattle.rules.specs.LeadRules.{beat_subtracted}
 use Rattle.samples.specs.Trace.{Trace}
 use Rattle.leads.specs.LeadTrace.{sample_count_at, read_trace, trace_at}

@@ -1,6 +1,5 @@
 -- The answer is the smallest of 1 to 10 that applies; where none applies the room decides.
 use mathlib.Core.Path.{refl, ◌∙◌, sym}
-use borrow.Author.Rules.{rules}
 use Rattle.wire.proofs.Tests.{kept, broken, same, differ}
 use Rattle.leads.specs.LeadTrace.{read_refusal}
 use Rattle.leads.proofs.read_refusal.Goals as goal

@@ -5,13 +5,12 @@ use mathlib.Core.Bool.{true}
 use mathlib.Core.List.{List}
 use native.Mathlib.Omega.{arith}
 use lib.Dec.{leb}
-use borrow.Author.Rules.{rules}
 use borrow.Author.Tests.{le-leb, lt-leb}
 use Rattle.wire.proofs.Tests.{kept, broken}
 use Rattle.entries.specs.Section3.{sample_count}
 use Rattle.entries.proofs.Laws.{leads_right, interval_some}
 use Rattle.rules.specs.LeadRules.{beat_sample_count}
-use Rattle.rules.proofs.Laws.{Sound, sound, sound_beat}
+use Rattle.rules.proofs.Laws.{sound, sound_beat}
 use Rattle.leads.specs.LeadTrace.{sample_count_at, room_right}
 use Rattle.leads.proofs.room_right.Goals as goal
 use Rattle.leads.proofs.room_right.Goals.{After-sample_count, Else-out-sample_count}

@@ -4,7 +4,6 @@ use mathlib.Core.Path.{ap, ap₂, ◌∙◌}
 use mathlib.Core.List.{List}
 use native.Mathlib.Omega.{arith}
 use lib.ListN.{length}
-use borrow.Author.Rules.{rules}
 use Rattle.bits.specs.Bits.{bits_in}
 use Rattle.entries.specs.Sections5And6.{order_of, stream_of}
 use Rattle.reading.specs.Compared.{compared_of}
