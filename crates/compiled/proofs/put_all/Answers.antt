@@ -15,7 +15,6 @@ use Rattle.compiled.proofs.put_all.Goals.{After-number16-n}
 pub returns-then-is_default : goal.returns-then-is_default
 unfolding tables_in every
 returns-then-is_default c =
-    let c = c in
     rw (sym c.is_default.ensures ∙ c.if-is_default.true)
     (ready (default_table ∷ []) 1 c.put_default.new.tab c.put_none.new.tab refl (omega arith) (omega arith) (rw default_right)
     default_two
@@ -44,7 +43,6 @@ put_none-requires-2 c =
 pub returns : goal.returns
 unfolding tables_in
 returns c =
-    let c = c in
     let a = c.args in
     let n = c.number16-n.result in
     let e = c.number16-n.ensures.0 in

@@ -51,7 +51,6 @@ put_form-requires c = let fit = form_fine 1 c.default_structure.result (omega ar
 
 pub loop-k-preserved : goal.loop-k-preserved
 loop-k-preserved c =
-    let c = c in
     let l = c.loop-k in (
       omega arith,
       upto_turn c.form_of.result c.put_form.new.tab l.invariant.1 (omega arith) (omega (arith, c))

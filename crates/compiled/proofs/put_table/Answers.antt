@@ -67,7 +67,6 @@ put_form-requires c = let tables = c.args.tables in
 
 pub loop-k-preserved : goal.loop-k-preserved
 loop-k-preserved c =
-    let c = c in
     let l = c.loop-k in (
       omega arith,
       omega arith,

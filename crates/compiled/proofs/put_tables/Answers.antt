@@ -53,7 +53,6 @@ put_table-requires c =
 pub loop-t-preserved : goal.loop-t-preserved
 unfolding table_at
 loop-t-preserved c =
-    let c = c in
     let a = c.args in
     let l = c.loop-t in
     let all = tables_from a.s.now a.o a.n in

@@ -15,13 +15,11 @@ returns-then-c-lt1 c =
 pub returns-then-tables-c : goal.returns-then-tables-c
 unfolding mode_right
 returns-then-tables-c c =
-    let c = c in
     simp (eq-eqb _ _ c.if-c-eq0.true, eq-eqb _ _ c.if-c.false, le-leb _ _ c.if-c-lt1.false, lt-leb _ _ c.if-tables-c.true)
 
 pub returns-then-c-eq0 : goal.returns-then-c-eq0
 unfolding mode_right
 returns-then-c-eq0 c =
-    let c = c in
     simp (eq-eqb _ _ c.if-c-eq0.true, eq-eqb _ _ c.if-c.false, le-leb _ _ c.if-c-lt1.false, le-leb _ _ c.if-tables-c.false)
 
 pub returns-then-c-ne1 : goal.returns-then-c-ne1

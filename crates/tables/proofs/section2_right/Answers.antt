@@ -33,7 +33,6 @@ returns-then-n-gt8 c =
 pub returns-then-not-all_tables_right : goal.returns-then-not-all_tables_right
 unfolding section2_right
 returns-then-not-all_tables_right c =
-    let c = c in
     rw (
       sym c.is_default.ensures ∙ c.if-is_default.false,
       sym c.number16-n.ensures.0,
@@ -45,8 +44,6 @@ returns-then-not-all_tables_right c =
 pub returns : goal.returns
 unfolding section2_right
 returns c =
-    let c = c in
-    let c = c in
     rw (
       sym c.is_default.ensures ∙ c.if-is_default.false,
       sym c.number16-n.ensures.0,

@@ -19,13 +19,11 @@ returns-then-c-p c =
 pub returns-then-c-p-gt16 : goal.returns-then-c-p-gt16
 unfolding structure_right
 returns-then-c-p-gt16 c =
-    let c = c in
     simp (le-leb _ _ c.if-p-lt1.false, le-leb _ _ c.if-p-gt32.false, le-leb _ _ c.if-c-p.false, lt-leb _ _ c.if-c-p-gt16.true)
 
 pub returns-then-power-c : goal.returns-then-power-c
 unfolding structure_right
 returns-then-power-c c =
-    let c = c in
     simp (
       le-leb _ _ c.if-p-lt1.false,
       le-leb _ _ c.if-p-gt32.false,
@@ -37,7 +35,6 @@ returns-then-power-c c =
 pub returns : goal.returns
 unfolding structure_right
 returns c =
-    let c = c in
     simp (
       le-leb _ _ c.if-p-lt1.false,
       le-leb _ _ c.if-p-gt32.false,

@@ -31,7 +31,6 @@ returns-then-not-structures_right c =
 pub returns : goal.returns
 unfolding table_at table_right
 returns c =
-    let c = c in
     rw (
       sym c.number16-n.ensures.0,
       length_structures_at,
