@@ -14,9 +14,8 @@ use Rattle.index.specs.Entry.{entry_size}
 use Rattle.index.specs.Index.{index_right}
 use Rattle.filing.specs.Filing.{section3_kept, entry_of, date_kept, room_right, add_refusal}
 use Rattle.filing.proofs.Laws.{index_used}
-use borrow.Author.Rules.{rules}
 use Rattle.filing.proofs.add_refusal.Goals as goal
-use Rattle.filing.proofs.add_refusal.Goals.{Else-not-date_kept, Else-not-index_right, Else-not-section3_kept, Else-refusal-ne0}
+use Rattle.filing.proofs.add_refusal.Goals.{Else-not-index_right, Else-refusal-ne0}
 
 -- what the rules say from 8, 24 and 11 on
 abbrev from11 : List ℕ → ℕ → List ℕ → ℕ
@@ -39,11 +38,11 @@ left2 c =
     let right : index_right a.lent.now a.used ≡ true = kept c.index_right.ensures c.if-not-index_right.false in
     simp (right, opened a.rec.now c.refusal_of-refusal.ensures c.if-refusal-ne0.false)
 
-left3 : (c : Else-not-section3_kept) → let a = c.args in Left from24 a.lent.now a.used a.rec.now
-left3 c = simp (kept c.section3_kept.ensures c.if-not-section3_kept.false) at (left2 c)
+left3 : (lent : List ℕ) (used : ℕ) (r : List ℕ) → section3_kept r ≡ true → Left from8 lent used r → Left from24 lent used r
+left3 lent used r h e = simp h at e
 
-left4 : (c : Else-not-date_kept) → let a = c.args in Left from11 a.lent.now a.used a.rec.now
-left4 c = simp (kept c.date_kept.ensures c.if-not-date_kept.false) at (left3 c)
+left4 : (lent : List ℕ) (used : ℕ) (r : List ℕ) → date_kept r ≡ true → Left from24 lent used r → Left from11 lent used r
+left4 lent used r h e = simp h at e
 
 pub returns-then-not-index_right : goal.returns-then-not-index_right
 unfolding add_refusal
@@ -68,7 +67,11 @@ pub date_kept-requires : goal.date_kept-requires
 date_kept-requires c = opens_here (goal.at.date_kept-requires c).Else-refusal-ne0
 
 pub returns-then-not-date_kept : goal.returns-then-not-date_kept
-returns-then-not-date_kept c = simp (broken c.date_kept.ensures c.if-not-date_kept.true) at (left3 (goal.at.returns-then-not-date_kept c).Else-not-section3_kept)
+returns-then-not-date_kept c =
+    let a = c.args in
+    let two = left2 (goal.at.returns-then-not-date_kept c).Else-refusal-ne0 in
+    let three = left3 a.lent.now a.used a.rec.now (kept c.section3_kept.ensures c.if-not-section3_kept.false) two in
+    simp (broken c.date_kept.ensures c.if-not-date_kept.true) at three
 
 -- no more is in use than was lent
 used_fits : (c : Else-not-index_right) → let a = c.args in a.used ≤ length a.lent.now
@@ -85,11 +88,17 @@ unfolding room_right
 returns-then-lent-used c = let a = c.args in
     let fits = used_fits (goal.at.returns-then-lent-used c).Else-not-index_right in
     let short = lt-leb (a.used + entry_size (entry_of a.rec.now)) (length a.lent.now) (omega (arith, c.entry_size.ensures, c.if-lent-used.true)) in
-    simp short at (left4 (goal.at.returns-then-lent-used c).Else-not-date_kept)
+    let two = left2 (goal.at.returns-then-lent-used c).Else-refusal-ne0 in
+    let three = left3 a.lent.now a.used a.rec.now (kept c.section3_kept.ensures c.if-not-section3_kept.false) two in
+    let four = left4 a.lent.now a.used a.rec.now (kept c.date_kept.ensures c.if-not-date_kept.false) three in
+    simp short at four
 
 pub returns : goal.returns
 unfolding room_right
 returns c = let a = c.args in
     let fits = used_fits (goal.at.returns c).Else-not-index_right in
     let enough = le-leb (a.used + entry_size (entry_of a.rec.now)) (length a.lent.now) (omega (arith, c.entry_size.ensures, c.if-lent-used.false)) in
-    simp enough at (left4 (goal.at.returns c).Else-not-date_kept)
+    let two = left2 (goal.at.returns c).Else-refusal-ne0 in
+    let three = left3 a.lent.now a.used a.rec.now (kept c.section3_kept.ensures c.if-not-section3_kept.false) two in
+    let four = left4 a.lent.now a.used a.rec.now (kept c.date_kept.ensures c.if-not-date_kept.false) three in
+    simp enough at four

@@ -1,9 +1,8 @@
 -- The month and the day of the recording are judged.
-use mathlib.Core.Path.{◌≡◌, ap, ◌∙◌}
+use mathlib.Core.Path.{ap, ◌∙◌}
 use Rattle.index.specs.declared.Date.{Date}
 use Rattle.index.specs.Entry.{date_right}
 use Rattle.filing.specs.Filing.{date_kept}
-use borrow.Author.Rules.{rules}
 use Rattle.filing.proofs.date_kept.Goals as goal
 
 pub returns : goal.returns

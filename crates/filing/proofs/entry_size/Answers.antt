@@ -1,10 +1,9 @@
 -- The identifier's bytes are counted, and the head's.
 use Prim.Native.Nat.{ℕ, ◌+◌}
-use mathlib.Core.Path.{◌≡◌, ap}
+use mathlib.Core.Path.{ap}
 use mathlib.Core.List.{List}
 use lib.ListN.{length}
 use Rattle.filing.specs.Filing.{entry_of}
-use borrow.Author.Rules.{rules}
 use Rattle.filing.proofs.entry_size.Goals as goal
 
 pub returns : goal.returns

@@ -1,12 +1,9 @@
 -- Section 3 says how many, where it is there.
-use mathlib.Core.Path.{◌≡◌, sym, ap, ◌∙◌}
-use mathlib.Core.List.{List}
-use Prim.Native.Nat.{ℕ}
+use mathlib.Core.Path.{ap, ◌∙◌}
 use native.Mathlib.Omega.{arith}
 use Rattle.wire.proofs.Tests.{kept, broken}
 use Rattle.entries.specs.Section3.{lead_count}
 use Rattle.filing.specs.Filing.{leads_of}
-use borrow.Author.Rules.{rules}
 use Rattle.filing.proofs.leads_of.Goals as goal
 
 pub returns-then-not-is_present : goal.returns-then-not-is_present

@@ -1,9 +1,8 @@
-use Prim.Native.Nat.{◌+◌, ◌-◌, ◌≤◌}
-use mathlib.Core.Path.{◌≡◌, sym, ap, ◌∙◌}
+use Prim.Native.Nat.{◌-◌}
+use mathlib.Core.Path.{◌≡◌, ap, ◌∙◌}
 use native.Mathlib.Omega.{arith}
 use lib.ListN.{length}
 use Rattle.filing.proofs.Laws.{moved_on, moved_byte, moved_none, moved_length}
-use borrow.Author.Rules.{rules}
 use Rattle.filing.proofs.move_on.Goals as goal
 use Rattle.filing.proofs.move_on.Goals.{After-loop-i, In-loop-i}
 

@@ -1,10 +1,7 @@
 -- At every turn what was in use from i on stands `size` bytes further on.
-use Prim.Native.Nat.{◌+◌, ◌-◌, ◌≤◌}
-use mathlib.Core.Path.{◌≡◌, sym, ap, ◌∙◌}
-use native.Mathlib.Omega.{arith}
-use lib.ListN.{length}
-use Rattle.filing.proofs.Laws.{moved_on, moved_byte, moved_none, moved_length}
-use borrow.Author.Rules.{rules}
+use Prim.Native.Nat.{◌≤◌}
+use mathlib.Core.Path.{◌≡◌}
+use Rattle.filing.proofs.Laws.{moved_on}
 use Rattle.filing.proofs.move_on.Given as goal
 
 abbrev pub invariant-loop-i : goal.invariant-loop-i

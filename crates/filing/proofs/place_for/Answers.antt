@@ -1,14 +1,10 @@
-use Prim.Native.Nat.{◌-◌}
 use mathlib.Core.Path.{◌≡◌, sym, ap, ◌∙◌}
 use mathlib.Core.Bool.{not}
 use native.Mathlib.Omega.{arith}
-use lib.ListN.{length}
 use Rattle.index.specs.Order.{before}
-use Rattle.index.specs.Index.{up_to}
 use Rattle.index.specs.InnerSteps.{seen}
-use Rattle.index.proofs.Walk.{Shown, shown_at_lem, Going, going_from, going_on, going_stop, going_end, whole_entry, none_past, going_whole}
+use Rattle.index.proofs.Walk.{Shown, shown_at_lem, going_from, going_on, going_stop, going_end, whole_entry, none_past, going_whole}
 use Rattle.filing.specs.InnerFiling.{filed}
-use borrow.Author.Rules.{rules}
 use Rattle.filing.proofs.place_for.Goals as goal
 use Rattle.filing.proofs.place_for.Goals.{After-entry_at-e, After-is_before}
 
@@ -20,7 +16,7 @@ entry_at-e-requires c = whole_entry _ _ (going_whole _ _ _ _ c.loop-at.invariant
 
 -- the entry that is there
 there : (c : After-entry_at-e) → Shown c.args.s.now c.loop-at.at c.entry_at-e.result
-there c = shown_at_lem _ _ _ c.entry_at-e.ensures (entry-at-requires c c.entry_at-e.lifetimes)
+there c = shown_at_lem _ _ _ c.entry_at-e.ensures (whole_entry _ _ (going_whole _ _ _ _ c.loop-at.invariant c.requires) (omega arith))
 
 -- and what the call says of it
 asked : (c : After-is_before) → let a = c.args in

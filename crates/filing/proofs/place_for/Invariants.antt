@@ -1,15 +1,9 @@
 -- At every turn the entries passed are not greater; the first that is, or the end, is the place.
 use Prim.Native.Nat.{◌-◌}
-use mathlib.Core.Path.{◌≡◌, sym, ap, ◌∙◌}
-use mathlib.Core.Bool.{not}
-use native.Mathlib.Omega.{arith}
 use lib.ListN.{length}
-use Rattle.index.specs.Order.{before}
 use Rattle.index.specs.Index.{up_to}
-use Rattle.index.specs.InnerSteps.{seen}
-use Rattle.index.proofs.Walk.{Shown, shown_at_lem, Going, going_from, going_on, going_stop, going_end, whole_entry, none_past, going_whole}
+use Rattle.index.proofs.Walk.{Going}
 use Rattle.filing.specs.InnerFiling.{filed}
-use borrow.Author.Rules.{rules}
 use Rattle.filing.proofs.place_for.Given as goal
 
 abbrev pub invariant-loop-at : goal.invariant-loop-at

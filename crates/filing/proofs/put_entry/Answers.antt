@@ -9,7 +9,6 @@ use Rattle.packing.specs.Packing.{packed}
 use Rattle.index.specs.Entry.{head_bits, entry_bytes}
 use Rattle.index.proofs.Heads.{head_length}
 use Rattle.filing.specs.InnerFiling.{filed}
-use borrow.Author.Rules.{rules}
 use Rattle.filing.proofs.put_entry.Goals as goal
 
 pub returns : goal.returns

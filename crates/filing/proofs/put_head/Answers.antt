@@ -1,68 +1,55 @@
 -- The numbers are put one behind another; the forty bits fill five bytes, and nothing behind them is changed.
 use Prim.Native.Nat.{ℕ, ◌+◌, ◌*◌, ◌/◌, ◌^◌, ◌≤◌, ◌<◌}
-use mathlib.Core.Path.{◌≡◌, refl, sym, ap, ◌∙◌}
+use mathlib.Core.Path.{◌≡◌, refl, ap, ◌∙◌}
 use mathlib.Core.List.{List, [], ◌++◌}
 use native.Mathlib.Omega.{arith}
 use lib.ListN.{length, drop, length-append, length-drop}
 use Rattle.bits.specs.Bits.{high_first}
+use Rattle.bits.proofs.Laws.{length_high_first}
 use Rattle.packing.specs.declared.Sink.{Sink}
+use Rattle.index.specs.declared.Date.{Date}
 use Rattle.packing.specs.InnerSink.{Holds}
 use Rattle.packing.specs.Packing.{packed}
 use Rattle.packing.proofs.Sinks.{holds_length, rest_later}
 use Rattle.index.specs.Entry.{head_bits}
 use Rattle.index.proofs.Heads.{head_length}
 use Rattle.filing.specs.InnerFiling.{filed}
-use borrow.Author.Rules.{rules}
 use Rattle.filing.proofs.put_head.Goals as goal
-use Rattle.filing.proofs.put_head.Goals.{After-end, After-put-s, After-put-s-2, After-put-s-3, After-put-s-4, After-put-s-5, After-put-s-6}
 
--- the bits held after each number
-held1 : (c : After-put-s) → Holds c.put-s.new.out c.put-s.result (high_first 6 (length c.args.id.now))
-held1 c = c.put-s.ensures.0 [] (c.new.ensures _)
+-- a call of `put` adds the n lowest bits of a word
+abbrev Put : List ℕ → Sink → List ℕ → Sink → ℕ → ℕ → Type 0
+Put out s out' s' n word =
+    ((bs : List ℕ) → Holds out s bs → Holds out' s' (bs ++ high_first n word))
+    × (length out' ≡ length out)
+    × (drop s'.at out' ≡ drop s'.at out)
+    × (s'.at * 8 + s'.part ≡ s.at * 8 + s.part + n)
 
-held2 : (c : After-put-s-2) → let a = c.args in
-    Holds c.put-s-2.new.out c.put-s-2.result (high_first 6 (length a.id.now) ++ high_first 16 a.date.year)
-held2 c = c.put-s-2.ensures.0 _ (held1 c)
+-- m bits are held; the output is as long as it was, and what is behind its first five bytes stays
+record Held (first out : List ℕ) (s : Sink) (bs : List ℕ) (m : ℕ) : Type 0 where
+  holds : Holds out s bs
+  count : length bs ≡ m
+  long : length out ≡ length first
+  rest : drop 5 out ≡ drop 5 first
 
-held3 : (c : After-put-s-3) → let a = c.args in
-    Holds c.put-s-3.new.out c.put-s-3.result
-    ((high_first 6 (length a.id.now) ++ high_first 16 a.date.year) ++ high_first 4 a.date.month)
-held3 c = c.put-s-3.ensures.0 _ (held2 c)
+-- what is behind the first five bytes stays
+still : (out out' : List ℕ) (s : Sink) (bs : List ℕ) → Holds out' s bs → length bs ≤ 40 → drop s.at out' ≡ drop s.at out
+    → drop 5 out' ≡ drop 5 out
+still out out' s bs h few e = rest_later s.at 5 out' out (omega (arith, holds_length out' s bs h)) e
 
-held4 : (c : After-put-s-4) → let a = c.args in
-    Holds c.put-s-4.new.out c.put-s-4.result
-    (((high_first 6 (length a.id.now) ++ high_first 16 a.date.year) ++ high_first 4 a.date.month) ++ high_first 5 a.date.day)
-held4 c = c.put-s-4.ensures.0 _ (held3 c)
+none : (first : List ℕ) (s : Sink) → Holds first s [] → Held first first s [] 0
+none first s h = record { holds = h; count = refl; long = refl; rest = refl }
 
-held5 : (c : After-put-s-5) → let a = c.args in
-    Holds c.put-s-5.new.out c.put-s-5.result
-    ((((high_first 6 (length a.id.now) ++ high_first 16 a.date.year) ++ high_first 4 a.date.month) ++ high_first 5 a.date.day)
-    ++ high_first 8 a.leads)
-held5 c = c.put-s-5.ensures.0 _ (held4 c)
-
-held6 : (c : After-put-s-6) → let a = c.args in
-    Holds c.put-s-6.new.out c.put-s-6.result (head_bits (filed a.id.now a.date a.leads))
-unfolding head_bits high_first
-held6 c = c.put-s-6.ensures.0 _ (held5 c)
-
--- the output is as long as it was
-long1 : (c : After-put-s) → length c.put-s.new.out ≡ length c.args.out.now
-long1 c = c.put-s.ensures.1
-
-long2 : (c : After-put-s-2) → length c.put-s-2.new.out ≡ length c.args.out.now
-long2 c = c.put-s-2.ensures.1 ∙ long1 c
-
-long3 : (c : After-put-s-3) → length c.put-s-3.new.out ≡ length c.args.out.now
-long3 c = c.put-s-3.ensures.1 ∙ long2 c
-
-long4 : (c : After-put-s-4) → length c.put-s-4.new.out ≡ length c.args.out.now
-long4 c = c.put-s-4.ensures.1 ∙ long3 c
-
-long5 : (c : After-put-s-5) → length c.put-s-5.new.out ≡ length c.args.out.now
-long5 c = c.put-s-5.ensures.1 ∙ long4 c
-
-long6 : (c : After-put-s-6) → length c.put-s-6.new.out ≡ length c.args.out.now
-long6 c = c.put-s-6.ensures.1 ∙ long5 c
+more : (first out out' : List ℕ) (s s' : Sink) (bs : List ℕ) (m n word : ℕ) → m + n ≤ 40 → Put out s out' s' n word → Held first out s bs m
+    → Held first out' s' (bs ++ high_first n word) (m + n)
+more first out out' s s' bs m n word few p h =
+    let bits = p.0 bs h.holds in
+    let count : length (bs ++ high_first n word) ≡ m + n = length-append bs (high_first n word) ∙ omega (arith, h.count, length_high_first n word) in
+    record {
+      holds = bits;
+      count = count;
+      long = p.1 ∙ h.long;
+      rest = still out out' s' (bs ++ high_first n word) bits (omega arith) p.2 ∙ h.rest;
+    }
 
 -- n bits more have room in the first five bytes
 record Room (out : List ℕ) (s : Sink) (n : ℕ) : Type 0 where
@@ -70,93 +57,109 @@ record Room (out : List ℕ) (s : Sink) (n : ℕ) : Type 0 where
   acc : s.acc < 2 ^ s.part
   fits : (s.at * 8 + s.part + n) / 8 ≤ length out
 
-room : (out : List ℕ) (s : Sink) (bs : List ℕ) (n : ℕ) → Holds out s bs → length bs + n ≤ 40 → 5 ≤ length out → Room out s n
-room out s bs n h few long = record { part = h.part; acc = h.acc; fits = omega (arith, holds_length out s bs h) }
-
--- what is behind the first five bytes stays
-still : (out out' : List ℕ) (s : Sink) (bs : List ℕ) → Holds out' s bs → length bs ≤ 40 → drop s.at out' ≡ drop s.at out
-    → drop 5 out' ≡ drop 5 out
-still out out' s bs h few e = rest_later s.at 5 out' out (omega (arith, holds_length out' s bs h)) e
-
-rest1 : (c : After-put-s) → drop 5 c.put-s.new.out ≡ drop 5 c.args.out.now
-unfolding high_first
-rest1 c = still _ _ _ _ (held1 c) (omega arith) c.put-s.ensures.2
-
-rest2 : (c : After-put-s-2) → drop 5 c.put-s-2.new.out ≡ drop 5 c.args.out.now
-unfolding high_first
-rest2 c = still _ _ _ _ (held2 c) (omega arith) c.put-s-2.ensures.2 ∙ rest1 c
-
-rest3 : (c : After-put-s-3) → drop 5 c.put-s-3.new.out ≡ drop 5 c.args.out.now
-unfolding high_first
-rest3 c = still _ _ _ _ (held3 c) (omega arith) c.put-s-3.ensures.2 ∙ rest2 c
-
-rest4 : (c : After-put-s-4) → drop 5 c.put-s-4.new.out ≡ drop 5 c.args.out.now
-unfolding high_first
-rest4 c = still _ _ _ _ (held4 c) (omega arith) c.put-s-4.ensures.2 ∙ rest3 c
-
-rest5 : (c : After-put-s-5) → drop 5 c.put-s-5.new.out ≡ drop 5 c.args.out.now
-unfolding high_first
-rest5 c = still _ _ _ _ (held5 c) (omega arith) c.put-s-5.ensures.2 ∙ rest4 c
-
-rest6 : (c : After-put-s-6) → drop 5 c.put-s-6.new.out ≡ drop 5 c.args.out.now
-unfolding head_bits high_first
-rest6 c = still _ _ _ _ (held6 c) (omega arith) c.put-s-6.ensures.2 ∙ rest5 c
-
--- the output afterwards
-written : (c : After-end) → let a = c.args in
-    c.end.new.out ≡ packed (head_bits (filed a.id.now a.date a.leads)) ++ drop 5 a.out.now
-written c =
-    let a = c.args in
-    let e = filed a.id.now a.date a.leads in
-    c.end.ensures.0 _ (held6 c)
-    ∙ ap (λ (n : ℕ). packed (head_bits e) ++ drop n c.put-s-6.new.out) (head_length e)
-    ∙ ap (λ (l : List ℕ). packed (head_bits e) ++ l) (rest6 c)
+room : (first out : List ℕ) (s : Sink) (bs : List ℕ) (m n : ℕ) → Held first out s bs m → m + n ≤ 40 → 5 ≤ length first → Room out s n
+room first out s bs m n h few long =
+    let k = h.holds in
+    record { part = k.part; acc = k.acc; fits = omega (arith, holds_length out s bs k, h.count, h.long) }
 
 pub put-s-requires : goal.put-s-requires
-put-s-requires c = let r = room c.args.out.now c.new.result [] 6 (c.new.ensures _) (omega arith) c.requires.0 in
+put-s-requires c =
+    let z = none c.args.out.now c.new.result (c.new.ensures _) in
+    let r = room _ _ _ _ 0 6 z (omega arith) c.requires.0 in
     (omega arith, c.requires.1, r.part, r.acc, r.fits)
 
 pub put-s-requires-2 : goal.put-s-requires-2
-unfolding high_first
-put-s-requires-2 c = 
-    let r = room c.put-s.new.out c.put-s.result _ 16 (held1 (goal.at.put-s-requires-2 c).After-put-s) (omega arith) (rw (long1 (goal.at.put-s-requires-2 c).After-put-s) c.requires.0) in
+put-s-requires-2 c =
+    let z = none c.args.out.now c.new.result (c.new.ensures _) in
+    let one = more _ _ _ _ _ _ 0 6 (length c.args.id.now) (omega arith) c.put-s.ensures z in
+    let r = room _ _ _ _ 6 16 one (omega arith) c.requires.0 in
     (omega arith, omega arith, r.part, r.acc, r.fits)
 
 pub put-s-requires-3 : goal.put-s-requires-3
-unfolding high_first
-put-s-requires-3 c = 
-    let r = room c.put-s-2.new.out c.put-s-2.result _ 4 (held2 (goal.at.put-s-requires-3 c).After-put-s-2) (omega arith) (rw (long2 (goal.at.put-s-requires-3 c).After-put-s-2) c.requires.0) in
+put-s-requires-3 c =
+    let z = none c.args.out.now c.new.result (c.new.ensures _) in
+    let one = more _ _ _ _ _ _ 0 6 (length c.args.id.now) (omega arith) c.put-s.ensures z in
+    let two = more _ _ _ _ _ _ 6 16 c.args.date.year (omega arith) c.put-s-2.ensures one in
+    let r = room _ _ _ _ 22 4 two (omega arith) c.requires.0 in
     (omega arith, c.requires.2, r.part, r.acc, r.fits)
 
 pub put-s-requires-4 : goal.put-s-requires-4
-unfolding high_first
-put-s-requires-4 c = 
-    let r = room c.put-s-3.new.out c.put-s-3.result _ 5 (held3 (goal.at.put-s-requires-4 c).After-put-s-3) (omega arith) (rw (long3 (goal.at.put-s-requires-4 c).After-put-s-3) c.requires.0) in
+put-s-requires-4 c =
+    let z = none c.args.out.now c.new.result (c.new.ensures _) in
+    let one = more _ _ _ _ _ _ 0 6 (length c.args.id.now) (omega arith) c.put-s.ensures z in
+    let two = more _ _ _ _ _ _ 6 16 c.args.date.year (omega arith) c.put-s-2.ensures one in
+    let three = more _ _ _ _ _ _ 22 4 c.args.date.month (omega arith) c.put-s-3.ensures two in
+    let r = room _ _ _ _ 26 5 three (omega arith) c.requires.0 in
     (omega arith, c.requires.3, r.part, r.acc, r.fits)
 
 pub put-s-requires-5 : goal.put-s-requires-5
-unfolding high_first
-put-s-requires-5 c = 
-    let r = room c.put-s-4.new.out c.put-s-4.result _ 8 (held4 (goal.at.put-s-requires-5 c).After-put-s-4) (omega arith) (rw (long4 (goal.at.put-s-requires-5 c).After-put-s-4) c.requires.0) in
+put-s-requires-5 c =
+    let z = none c.args.out.now c.new.result (c.new.ensures _) in
+    let one = more _ _ _ _ _ _ 0 6 (length c.args.id.now) (omega arith) c.put-s.ensures z in
+    let two = more _ _ _ _ _ _ 6 16 c.args.date.year (omega arith) c.put-s-2.ensures one in
+    let three = more _ _ _ _ _ _ 22 4 c.args.date.month (omega arith) c.put-s-3.ensures two in
+    let four = more _ _ _ _ _ _ 26 5 c.args.date.day (omega arith) c.put-s-4.ensures three in
+    let r = room _ _ _ _ 31 8 four (omega arith) c.requires.0 in
     (omega arith, c.requires.4, r.part, r.acc, r.fits)
 
 pub put-s-requires-6 : goal.put-s-requires-6
-unfolding high_first
-put-s-requires-6 c = 
-    let r = room c.put-s-5.new.out c.put-s-5.result _ 1 (held5 (goal.at.put-s-requires-6 c).After-put-s-5) (omega arith) (rw (long5 (goal.at.put-s-requires-6 c).After-put-s-5) c.requires.0) in
+put-s-requires-6 c =
+    let z = none c.args.out.now c.new.result (c.new.ensures _) in
+    let one = more _ _ _ _ _ _ 0 6 (length c.args.id.now) (omega arith) c.put-s.ensures z in
+    let two = more _ _ _ _ _ _ 6 16 c.args.date.year (omega arith) c.put-s-2.ensures one in
+    let three = more _ _ _ _ _ _ 22 4 c.args.date.month (omega arith) c.put-s-3.ensures two in
+    let four = more _ _ _ _ _ _ 26 5 c.args.date.day (omega arith) c.put-s-4.ensures three in
+    let five = more _ _ _ _ _ _ 31 8 c.args.leads (omega arith) c.put-s-5.ensures four in
+    let r = room _ _ _ _ 39 1 five (omega arith) c.requires.0 in
     (omega arith, omega arith, r.part, r.acc, r.fits)
 
 pub end-requires : goal.end-requires
-unfolding head_bits high_first
-end-requires c = 
-    let r = room c.put-s-6.new.out c.put-s-6.result _ 0 (held6 (goal.at.end-requires c).After-put-s-6) (omega arith) (rw (long6 (goal.at.end-requires c).After-put-s-6) c.requires.0) in
-    (r.part, r.acc, omega (arith, holds_length _ _ _ (held6 (goal.at.end-requires c).After-put-s-6), long6 (goal.at.end-requires c).After-put-s-6, c.requires.0))
+end-requires c =
+    let z = none c.args.out.now c.new.result (c.new.ensures _) in
+    let one = more _ _ _ _ _ _ 0 6 (length c.args.id.now) (omega arith) c.put-s.ensures z in
+    let two = more _ _ _ _ _ _ 6 16 c.args.date.year (omega arith) c.put-s-2.ensures one in
+    let three = more _ _ _ _ _ _ 22 4 c.args.date.month (omega arith) c.put-s-3.ensures two in
+    let four = more _ _ _ _ _ _ 26 5 c.args.date.day (omega arith) c.put-s-4.ensures three in
+    let five = more _ _ _ _ _ _ 31 8 c.args.leads (omega arith) c.put-s-5.ensures four in
+    let six = more _ _ _ _ _ _ 39 1 0 (omega arith) c.put-s-6.ensures five in
+    let r = room _ _ _ _ 40 0 six (omega arith) c.requires.0 in
+    (r.part, r.acc, omega (arith, holds_length _ _ _ six.holds, six.count, six.long, c.requires.0))
+
+-- the output afterwards
+written : (first out last : List ℕ) (s : Sink) (id : List ℕ) (date : Date) (leads : ℕ)
+    → ((bs : List ℕ) → Holds out s bs → last ≡ packed bs ++ drop (length (packed bs)) out)
+    → Held first out s (head_bits (filed id date leads)) 40 → last ≡ packed (head_bits (filed id date leads)) ++ drop 5 first
+written first out last s id date leads end h =
+    let e = filed id date leads in
+    end (head_bits e) h.holds
+    ∙ ap (λ (n : ℕ). packed (head_bits e) ++ drop n out) (head_length e)
+    ∙ ap (λ (l : List ℕ). packed (head_bits e) ++ l) h.rest
 
 pub shape_of-out : goal.shape_of-out
-shape_of-out c = let a = c.args in
+unfolding head_bits high_first
+shape_of-out c =
+    let a = c.args in
+    let z = none c.args.out.now c.new.result (c.new.ensures _) in
+    let one = more _ _ _ _ _ _ 0 6 (length c.args.id.now) (omega arith) c.put-s.ensures z in
+    let two = more _ _ _ _ _ _ 6 16 c.args.date.year (omega arith) c.put-s-2.ensures one in
+    let three = more _ _ _ _ _ _ 22 4 c.args.date.month (omega arith) c.put-s-3.ensures two in
+    let four = more _ _ _ _ _ _ 26 5 c.args.date.day (omega arith) c.put-s-4.ensures three in
+    let five = more _ _ _ _ _ _ 31 8 c.args.leads (omega arith) c.put-s-5.ensures four in
+    let six = more _ _ _ _ _ _ 39 1 0 (omega arith) c.put-s-6.ensures five in
     let e = filed a.id.now a.date a.leads in
     let long = length-append (packed (head_bits e)) (drop 5 a.out.now) in
-    ap length (written (goal.at.shape_of-out c).After-end) ∙ omega (arith, long, head_length e, length-drop 5 a.out.now, c.requires.0)
+    ap length (written _ _ _ _ a.id.now a.date a.leads c.end.ensures.0 six)
+    ∙ omega (arith, long, head_length e, length-drop 5 a.out.now, c.requires.0)
 
 pub returns : goal.returns
-returns c = written (goal.at.returns c).After-end
+unfolding head_bits high_first
+returns c =
+    let a = c.args in
+    let z = none c.args.out.now c.new.result (c.new.ensures _) in
+    let one = more _ _ _ _ _ _ 0 6 (length c.args.id.now) (omega arith) c.put-s.ensures z in
+    let two = more _ _ _ _ _ _ 6 16 c.args.date.year (omega arith) c.put-s-2.ensures one in
+    let three = more _ _ _ _ _ _ 22 4 c.args.date.month (omega arith) c.put-s-3.ensures two in
+    let four = more _ _ _ _ _ _ 26 5 c.args.date.day (omega arith) c.put-s-4.ensures three in
+    let five = more _ _ _ _ _ _ 31 8 c.args.leads (omega arith) c.put-s-5.ensures four in
+    let six = more _ _ _ _ _ _ 39 1 0 (omega arith) c.put-s-6.ensures five in
+    written _ _ _ _ a.id.now a.date a.leads c.end.ensures.0 six

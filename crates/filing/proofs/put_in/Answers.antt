@@ -13,7 +13,6 @@ use Rattle.index.specs.Index.{entries_in}
 use Rattle.index.proofs.Found.{whole_index}
 use Rattle.filing.specs.Filing.{entry_of, place_for, put_in}
 use Rattle.filing.proofs.Laws.{Kept, all_kept_lem, opened_none, date_room, moved_length, put_between}
-use borrow.Author.Rules.{rules}
 use Rattle.filing.proofs.put_in.Goals as goal
 use Rattle.filing.proofs.put_in.Goals.{After-identifier_of-id, After-move_on, After-part_of, After-place_for-at, After-put_entry, Start}
 
@@ -40,8 +39,8 @@ size : (c : After-identifier_of-id) → 5 + length c.identifier_of-id.result.now
 unfolding entry_of
 size c = ap (λ (l : List ℕ). 5 + length l) c.identifier_of-id.ensures
 
-room : (c : After-identifier_of-id) → c.args.used + (5 + length c.identifier_of-id.result.now) ≤ length c.args.lent.now
-room c = rw (size c) (keeps c).room
+room : (c : After-identifier_of-id) → Kept c.args.lent.now c.args.used c.args.rec.now → c.args.used + (5 + length c.identifier_of-id.result.now) ≤ length c.args.lent.now
+room c k = rw (size c) k.room
 
 -- the place is one in what is in use
 place_fits : (c : After-place_for-at) → c.place_for-at.result ≤ c.args.used
@@ -52,29 +51,31 @@ place_fits c =
 
 -- and that of the record's entry
 place_is : (c : After-place_for-at) → let a = c.args in
+    c.part_of.result.now ≡ take a.used a.lent.now →
     c.place_for-at.result ≡ place_for (entry_of a.rec.now) (entries_in (take a.used a.lent.now))
 unfolding place_for before entry_of
-place_is c =
+place_is c in_use =
     c.place_for-at.ensures.place ∙ zero-add _
-    ∙ rw (used c, c.identifier_of-id.ensures, c.date_of-date.ensures)
+    ∙ rw (in_use, c.identifier_of-id.ensures, c.date_of-date.ensures)
 
 pub overflow_add-end : goal.overflow_add-end
-overflow_add-end c = omega (arith, place_fits c, room (goal.at.overflow_add-end c).After-identifier_of-id)
+overflow_add-end c = omega (arith, place_fits c, room (goal.at.overflow_add-end c).After-identifier_of-id (keeps (goal.at.overflow_add-end c).Start))
 
 pub move_on-requires : goal.move_on-requires
-move_on-requires c = (place_fits (goal.at.move_on-requires c).After-place_for-at, room (goal.at.move_on-requires c).After-identifier_of-id)
+move_on-requires c = (place_fits (goal.at.move_on-requires c).After-place_for-at, room (goal.at.move_on-requires c).After-identifier_of-id (keeps (goal.at.move_on-requires c).Start))
 
 -- the lent bytes, moved on, are as many as before
-long : (c : After-move_on) → length c.move_on.new.lent ≡ length c.args.lent.now
-long c =
+long : (c : After-move_on) → c.place_for-at.result ≤ c.args.used
+    → c.args.used + (5 + length c.identifier_of-id.result.now) ≤ length c.args.lent.now → length c.move_on.new.lent ≡ length c.args.lent.now
+long c fits enough =
     let a = c.args in
     ap length c.move_on.ensures
-    ∙ moved_length a.lent.now c.place_for-at.result a.used (5 + length c.identifier_of-id.result.now) (place_fits c) (room c)
+    ∙ moved_length a.lent.now c.place_for-at.result a.used (5 + length c.identifier_of-id.result.now) fits enough
 
 pub slice_bounds-put_entry-end : goal.slice_bounds-put_entry-end
 slice_bounds-put_entry-end c = let at = c.place_for-at.result in
     let n = length c.identifier_of-id.result.now in
-    let h : at + (5 + n) ≤ length c.move_on.new.lent = omega (arith, long (goal.at.slice_bounds-put_entry-end c).After-move_on, place_fits (goal.at.slice_bounds-put_entry-end c).After-place_for-at, room (goal.at.slice_bounds-put_entry-end c).After-identifier_of-id) in
+    let h : at + (5 + n) ≤ length c.move_on.new.lent = omega (arith, long (goal.at.slice_bounds-put_entry-end c).After-move_on (place_fits (goal.at.slice_bounds-put_entry-end c).After-place_for-at) (room (goal.at.slice_bounds-put_entry-end c).After-identifier_of-id (keeps (goal.at.slice_bounds-put_entry-end c).Start)), place_fits (goal.at.slice_bounds-put_entry-end c).After-place_for-at, room (goal.at.slice_bounds-put_entry-end c).After-identifier_of-id (keeps (goal.at.slice_bounds-put_entry-end c).Start)) in
     h
 
 pub put_entry-requires : goal.put_entry-requires
@@ -88,10 +89,10 @@ put_entry-requires c = let k = keeps (goal.at.put_entry-requires c).Start in
     let most = (identified r k.opened).most in
     let d = c.date_of-date.result in
     let date : (d.month < 16) × (d.day < 32) = rw c.date_of-date.ensures (date_room r k.date) in
-    (omega (arith, cut, length-drop at out, long (goal.at.put_entry-requires c).After-move_on, place_fits (goal.at.put_entry-requires c).After-place_for-at, room (goal.at.put_entry-requires c).After-identifier_of-id), omega (arith, few, most), date.0, date.1, c.leads_of.ensures.1)
+    (omega (arith, cut, length-drop at out, long (goal.at.put_entry-requires c).After-move_on (place_fits (goal.at.put_entry-requires c).After-place_for-at) (room (goal.at.put_entry-requires c).After-identifier_of-id (keeps (goal.at.put_entry-requires c).Start)), place_fits (goal.at.put_entry-requires c).After-place_for-at, room (goal.at.put_entry-requires c).After-identifier_of-id (keeps (goal.at.put_entry-requires c).Start)), omega (arith, few, most), date.0, date.1, c.leads_of.ensures.1)
 
 pub overflow_add-result : goal.overflow_add-result
-overflow_add-result c = omega (arith, room (goal.at.overflow_add-result c).After-identifier_of-id)
+overflow_add-result c = omega (arith, room (goal.at.overflow_add-result c).After-identifier_of-id (keeps (goal.at.overflow_add-result c).Start))
 
 -- the entry that is written is the record's
 written : (c : After-put_entry) → c.put_entry.new.out ≡ entry_bytes (entry_of c.args.rec.now)
@@ -105,5 +106,5 @@ unfolding put_in
 returns c = let a = c.args in
     let n = 5 + length c.identifier_of-id.result.now in
     let at = c.place_for-at.result in
-    let put = put_between a.lent.now c.put_entry.new.out at a.used n (place_fits (goal.at.returns c).After-place_for-at) (room (goal.at.returns c).After-identifier_of-id) in
-    (ap (λ (k : ℕ). a.used + k) (size (goal.at.returns c).After-identifier_of-id), rw (c.move_on.ensures, ← size (goal.at.returns c).After-identifier_of-id, ← place_is (goal.at.returns c).After-place_for-at, ← written (goal.at.returns c).After-put_entry) put)
+    let put = put_between a.lent.now c.put_entry.new.out at a.used n (place_fits (goal.at.returns c).After-place_for-at) (room (goal.at.returns c).After-identifier_of-id (keeps (goal.at.returns c).Start)) in
+    (ap (λ (k : ℕ). a.used + k) (size (goal.at.returns c).After-identifier_of-id), rw (c.move_on.ensures, ← size (goal.at.returns c).After-identifier_of-id, ← place_is (goal.at.returns c).After-place_for-at (used (goal.at.returns c).After-part_of), ← written (goal.at.returns c).After-put_entry) put)

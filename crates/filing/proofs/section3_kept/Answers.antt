@@ -1,9 +1,8 @@
 -- Section 3's rule is asked where it is there.
-use mathlib.Core.Path.{◌≡◌, ap, ◌∙◌}
+use mathlib.Core.Path.{ap, ◌∙◌}
 use Rattle.wire.proofs.Tests.{kept, broken}
 use Rattle.entries.specs.Section3.{section3_right}
 use Rattle.filing.specs.Filing.{section3_kept}
-use borrow.Author.Rules.{rules}
 use Rattle.filing.proofs.section3_kept.Goals as goal
 
 pub returns-then-not-is_present : goal.returns-then-not-is_present
