@@ -54,6 +54,7 @@ known_at : (s2 : List ℕ) (order : ℕ) (counts : List ℕ) (xs : List ℤ) (fo
     → StreamOf s2 order (take (get_or counts k 0) (drop (total (take k counts)) xs)) (get_or (map size_found founds) k 0)
 unfolding cut number_for total
 known_at s2 order [] xs founds all z k h = absurd (omega arith)
+known_at s2 order (c ∷ counts) xs [] all z k h = elim all [ ]
 known_at s2 order (c ∷ counts) xs (none ∷ founds) (lead F all) z k h = absurd (omega arith)
 known_at s2 order (c ∷ counts) xs (some bs ∷ founds) (lead F all) z zero h =
     let p = number_zero bs (number_for founds) z in
@@ -137,6 +138,7 @@ module _ (s2 : List ℕ) (order : ℕ) (counts : List ℕ) (xs : List ℤ) (size
       go : (founds : List (Option (List ℕ))) → SearchFindsAll s2 order
           (take count (drop (at - count) xs) ∷ cut (drop k counts) (drop at xs)) founds
           → packed_all founds ≡ some streams → zs ++ drop from part ≡ joined streams
+      go [] rest e = elim rest [ ]
       go (none ∷ founds) (lead F rest) e = absurd (none_first founds streams e)
       go (some bs ∷ founds) (lead F rest) e =
           let w = streams_split bs founds streams e in
@@ -151,6 +153,7 @@ put_none s2 order counts xs part streams (founds, all, e) = drop-length part ∙
   where
     go : (founds : List (Option (List ℕ))) → SearchFindsAll s2 order [] founds → packed_all founds ≡ some streams → [] ≡ joined streams
     go [] done e = rw (no_streams streams e)
+    go (found ∷ founds) all e = elim all [ ]
 
 -- all are put
 pub put_all : (s2 : List ℕ) (order : ℕ) (counts : List ℕ) (xs : List ℤ) (part : List ℕ) (k at from : ℕ) → k ≡ 0 → at ≡ 0 → from ≡ 0

@@ -1,6 +1,5 @@
 -- The sections before Section 6, one behind another.
 use native.Mathlib.Omega.{arith}
-use borrow.Author.Rules.{rules}
 use Rattle.layout.proofs.Laws.{given_bounds}
 use Rattle.compose.proofs.front_size.Goals as goal
 

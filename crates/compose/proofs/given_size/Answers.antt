@@ -1,6 +1,5 @@
 -- Empty data have no section.
 use mathlib.Core.Path.{◌∙◌}
-use borrow.Author.Rules.{rules}
 use Rattle.layout.proofs.Laws.{given_zero, given_sized}
 use Rattle.compose.proofs.given_size.Goals as goal
 

@@ -1,6 +1,5 @@
 -- The first rule that is broken gives its number.
 use native.Mathlib.Omega.{arith}
-use borrow.Author.Rules.{rules}
 use native.Mathlib.Nat.{mul-le-mul_right}
 use Rattle.wire.proofs.Tests.{kept, broken}
 use Rattle.compose.specs.Writing.{job_of}

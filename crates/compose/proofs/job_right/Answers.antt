@@ -1,6 +1,5 @@
 -- Each test answers for one part of the rule, in its order.
 use lib.ListN.{length}
-use borrow.Author.Rules.{rules}
 use borrow.Author.Tests.{le-leb, lt-leb, eq-eqb, ne_eqb}
 use Rattle.wire.proofs.Tests.{kept, broken}
 use Rattle.compose.specs.Writing.{job_right}
@@ -83,7 +82,7 @@ returns-then-head-eq0 c = let a = c.args in
 
 pub returns-then-head-eq0-2 : goal.returns-then-head-eq0-2
 unfolding job_right
-returns-then-head-eq0-2 c = 
+returns-then-head-eq0-2 c =
     let a = c.args in
     let n = length a.counts.now in
     rw (
@@ -100,7 +99,7 @@ returns-then-head-eq0-2 c =
 
 pub returns : goal.returns
 unfolding job_right
-returns c = 
+returns c =
     let a = c.args in
     let n = length a.counts.now in
     rw (

@@ -1,7 +1,6 @@
 -- Each test answers for one part of the rule.
 use native.Mathlib.Omega.{arith}
 use lib.ListN.{get_or}
-use borrow.Author.Rules.{rules}
 use borrow.Author.Tests.{le-leb, lt-leb}
 use Rattle.compose.specs.Writing.{lead_asked}
 use Rattle.compose.proofs.lead_asked.Goals as goal

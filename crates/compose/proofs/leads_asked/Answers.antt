@@ -1,8 +1,6 @@
-use Prim.Native.Nat.{◌-◌, ◌≤◌}
-use mathlib.Core.Path.{◌≡◌, refl}
+use mathlib.Core.Path.{refl}
 use native.Mathlib.Omega.{arith}
 use lib.ListN.{length}
-use Rattle.wire.specs.RuleWords.{all_in}
 use Rattle.wire.proofs.Tests.{turn_kept, turn_broken, turns_done}
 use Rattle.compose.specs.Writing.{lead_asked}
 use Rattle.compose.proofs.leads_asked.Goals as goal

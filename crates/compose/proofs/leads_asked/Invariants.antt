@@ -1,10 +1,8 @@
 -- At every turn the leads still to come decide.
 use Prim.Native.Nat.{◌-◌, ◌≤◌}
-use mathlib.Core.Path.{◌≡◌, refl}
-use native.Mathlib.Omega.{arith}
+use mathlib.Core.Path.{◌≡◌}
 use lib.ListN.{length}
 use Rattle.wire.specs.RuleWords.{all_in}
-use Rattle.wire.proofs.Tests.{turn_kept, turn_broken, turns_done}
 use Rattle.compose.specs.Writing.{lead_asked}
 use Rattle.compose.proofs.leads_asked.Given as goal
 

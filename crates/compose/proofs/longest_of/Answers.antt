@@ -1,8 +1,6 @@
-use Prim.Native.Nat.{◌-◌, ◌<◌, ◌≤◌}
+use Prim.Native.Nat.{◌-◌}
 use mathlib.Core.Path.{◌≡◌}
 use native.Mathlib.Omega.{arith}
-use lib.ListN.{length, drop}
-use Rattle.compose.specs.Writing.{longest}
 use Rattle.compose.proofs.Laws.{longest_start, longest_new, longest_old}
 use Rattle.compose.proofs.longest_of.Goals as goal
 

@@ -1,10 +1,8 @@
 -- From the last back: most is the largest of the counts from i on.
-use Prim.Native.Nat.{◌-◌, ◌<◌, ◌≤◌}
+use Prim.Native.Nat.{◌<◌, ◌≤◌}
 use mathlib.Core.Path.{◌≡◌}
-use native.Mathlib.Omega.{arith}
 use lib.ListN.{length, drop}
 use Rattle.compose.specs.Writing.{longest}
-use Rattle.compose.proofs.Laws.{longest_start, longest_new, longest_old}
 use Rattle.compose.proofs.longest_of.Given as goal
 
 abbrev pub invariant-loop-i : goal.invariant-loop-i

@@ -1,14 +1,10 @@
-use Prim.Native.Nat.{ℕ, ◌+◌, ◌-◌, ◌≤◌}
+use Prim.Native.Nat.{◌-◌}
 use mathlib.Core.Path.{◌≡◌, refl, sym, ◌∙◌}
-use mathlib.Core.List.{List}
 use native.Mathlib.Omega.{arith}
 use native.Mathlib.Nat.{le_refl, le_trans, le_of_eq, sub-le, mul-le-mul_right}
 use borrow.Rule.Slice.PartMut.{mid_len, same_len_mid}
-use lib.ListN.{length, get_or, drop}
-use Rattle.layout.specs.Layout.{joined}
+use lib.ListN.{length, get_or}
 use Rattle.encode.specs.Encoding.{tables_given}
-use Rattle.compose.specs.Writing.{total, cut}
-use Rattle.compose.specs.InnerSizes.{StreamsFor}
 use Rattle.compose.proofs.Sizes.{in_longest, room_back, place_back, length_lent, places_start, places_done}
 use Rattle.compose.proofs.Streams.{stream_here, put_none, put_more, put_all}
 use Rattle.compose.proofs.put_streams.Goals as goal
@@ -35,7 +31,7 @@ pub overflow_cast-at : goal.overflow_cast-at
 overflow_cast-at c = omega (arith, c.type_inv.counts (c.loop-k.k - 1))
 
 pub overflow_sub-at : goal.overflow_sub-at
-overflow_sub-at c = 
+overflow_sub-at c =
     let a = c.args in
     let p = c.requires in
     let l = c.loop-k in
@@ -43,7 +39,7 @@ overflow_sub-at c =
     room_back a.counts.now l.k t l.invariant.0 l.at (length a.xs.now) l.invariant.1 p.sound.0.3
 
 pub bounds-sizes-k : goal.bounds-sizes-k
-bounds-sizes-k c = 
+bounds-sizes-k c =
     let p = c.requires in
     omega (arith, p.sizes_len.0, c.loop-k-test.true, c.loop-k.invariant.0)
 
@@ -51,7 +47,7 @@ pub overflow_cast-from : goal.overflow_cast-from
 overflow_cast-from c = omega (arith, c.type_inv.sizes (c.loop-k.k - 1))
 
 pub overflow_sub-from : goal.overflow_sub-from
-overflow_sub-from c = 
+overflow_sub-from c =
     let a = c.args in
     let p = c.requires in
     let l = c.loop-k in
@@ -78,7 +74,7 @@ pub slice_bounds-put_lead-end-in-loop-k : goal.slice_bounds-put_lead-end-in-loop
 slice_bounds-put_lead-end-in-loop-k c = let l = c.loop-k in omega (arith, l.invariant.2, l.invariant.4)
 
 pub put_lead-requires : goal.put_lead-requires
-put_lead-requires c = 
+put_lead-requires c =
     let a = c.args in
     let p = c.requires in
     let l = c.loop-k in
@@ -88,18 +84,21 @@ put_lead-requires c =
     let size = get_or a.sizes.now (l.k - 1) 0 in
     let g = le_trans l.invariant.0 (le_of_eq (sym p.sizes_len.0)) in
     let r = room_back a.sizes.now l.k t g l.from (length a.part.now) l.invariant.2 p.sizes_len.1 in
-    let long = mid_len (l.from - size) l.from l.part (omega (arith, l.invariant.2, l.invariant.4)) in record { section2_value = (p.sound.0.0, p.sound.1); xs_len_bound = (
+    let long = mid_len (l.from - size) l.from l.part (omega (arith, l.invariant.2, l.invariant.4)) in record {
+      section2_value = (p.sound.0.0, p.sound.1);
+      xs_len_bound = (
         rw e (le_trans m p.sound.0.1),
         rw (e, l.invariant.3) (le_trans (mul-le-mul_right (length (tables_given a.section2.now)) m) p.sound.0.2),
         stream_here a.section2.now a.order a.counts.now a.xs.now a.sizes.now p.sizes_len.2 l.k t l.invariant.0
             l.at (length a.xs.now) l.invariant.1 p.sound.0.3 _ (long ∙ omega (arith, r)),
-      ); }
+      );
+    }
 
 pub loop-k-smaller : goal.loop-k-smaller
 loop-k-smaller c = omega (arith, c.loop-k-test.true)
 
 pub loop-k-preserved : goal.loop-k-preserved
-loop-k-preserved c = 
+loop-k-preserved c =
     let a = c.args in
     let p = c.requires in
     let l = c.loop-k in

@@ -1,17 +1,11 @@
 -- The leads from k on are put; their samples begin at at, their streams at from.
-use Prim.Native.Nat.{ℕ, ◌+◌, ◌-◌, ◌≤◌}
-use mathlib.Core.Path.{◌≡◌, refl, sym, ◌∙◌}
+use Prim.Native.Nat.{ℕ, ◌+◌, ◌≤◌}
+use mathlib.Core.Path.{◌≡◌}
 use mathlib.Core.List.{List}
-use native.Mathlib.Omega.{arith}
-use native.Mathlib.Nat.{le_refl, le_trans, le_of_eq, sub-le, mul-le-mul_right}
-use borrow.Rule.Slice.PartMut.{mid_len, same_len_mid}
-use lib.ListN.{length, get_or, drop}
+use lib.ListN.{length, drop}
 use Rattle.layout.specs.Layout.{joined}
-use Rattle.encode.specs.Encoding.{tables_given}
 use Rattle.compose.specs.Writing.{total, cut}
 use Rattle.compose.specs.InnerSizes.{StreamsFor}
-use Rattle.compose.proofs.Sizes.{in_longest, room_back, place_back, length_lent, places_start, places_done}
-use Rattle.compose.proofs.Streams.{stream_here, put_none, put_more, put_all}
 use Rattle.compose.proofs.put_streams.Given as goal
 
 abbrev pub invariant-loop-k : goal.invariant-loop-k

@@ -1,11 +1,9 @@
-use Prim.Native.Nat.{◌+◌, ◌-◌, ◌≤◌}
+use Prim.Native.Nat.{◌-◌}
 use mathlib.Core.Path.{◌≡◌, refl, sym, ◌∙◌}
 use native.Mathlib.Omega.{arith}
-use lib.ListN.{length, take, drop, length-set}
+use lib.ListN.{length, length-set}
 use native.Mathlib.Nat.{le_refl, le_trans, sub-le, mul-le-mul_right}
 use Rattle.encode.specs.Encoding.{tables_given}
-use Rattle.compose.specs.Writing.{total, cut}
-use Rattle.compose.specs.InnerSizes.{SizedAs}
 use Rattle.compose.proofs.Sizes.{in_longest, room_back, place_back, length_lent, sized_none, sized_more}
 use Rattle.compose.proofs.Sizes.{sized_most, sized_all, places_start, places_done}
 use Rattle.compose.proofs.size_streams.Goals as goal
@@ -15,14 +13,14 @@ table_count-n-requires c = c.requires.sound.0.0
 
 pub loop-k-init : goal.loop-k-init
 loop-k-init c = let a = c.args in (
-      le_refl _,
-      places_start a.counts.now (length a.xs.now),
-      refl,
-      refl,
-      sized_none a.section2.now a.order
-          a.counts.now a.xs.now a.sizes.now,
-      λ z. refl,
-    )
+  le_refl _,
+  places_start a.counts.now (length a.xs.now),
+  refl,
+  refl,
+  sized_none a.section2.now a.order
+      a.counts.now a.xs.now a.sizes.now,
+  λ z. refl,
+)
 
 pub overflow_sub-k : goal.overflow_sub-k
 overflow_sub-k c = c.loop-k-test.true
@@ -34,7 +32,7 @@ pub overflow_cast-at : goal.overflow_cast-at
 overflow_cast-at c = omega (arith, c.type_inv.counts (c.loop-k.k - 1))
 
 pub overflow_sub-at : goal.overflow_sub-at
-overflow_sub-at c = 
+overflow_sub-at c =
     let a = c.args in
     let p = c.requires in
     let l = c.loop-k in
@@ -51,7 +49,7 @@ pub slice_bounds-stream_bits-end : goal.slice_bounds-stream_bits-end
 slice_bounds-stream_bits-end c = omega (arith, c.loop-k.invariant.1)
 
 pub stream_bits-bits-requires : goal.stream_bits-bits-requires
-stream_bits-bits-requires c = 
+stream_bits-bits-requires c =
     let a = c.args in
     let p = c.requires in
     let l = c.loop-k in
@@ -66,7 +64,7 @@ stream_bits-bits-requires c =
     )
 
 pub overflow_add-sizes : goal.overflow_add-sizes
-overflow_add-sizes c = 
+overflow_add-sizes c =
     let n = c.table_count-n in
     omega (
       arith,
@@ -75,7 +73,7 @@ overflow_add-sizes c =
     )
 
 pub overflow_cast-sizes : goal.overflow_cast-sizes
-overflow_cast-sizes c = 
+overflow_cast-sizes c =
     let n = c.table_count-n in
     omega (
       arith,
@@ -84,7 +82,7 @@ overflow_cast-sizes c =
     )
 
 pub bounds-sizes-k : goal.bounds-sizes-k
-bounds-sizes-k c = 
+bounds-sizes-k c =
     let l = c.loop-k in
     let t = c.loop-k-test.true in
     omega (arith, t, l.invariant.0, l.invariant.3, c.requires.counts_in_bounds)
@@ -93,7 +91,7 @@ pub loop-k-smaller : goal.loop-k-smaller
 loop-k-smaller c = omega (arith, c.loop-k-test.true)
 
 pub loop-k-preserved : goal.loop-k-preserved
-loop-k-preserved c = 
+loop-k-preserved c =
     let a = c.args in
     let p = c.requires in
     let l = c.loop-k in

@@ -1,14 +1,9 @@
 -- The leads from k on are sized; their samples begin at at.
 use Prim.Native.Nat.{◌+◌, ◌-◌, ◌≤◌}
-use mathlib.Core.Path.{◌≡◌, refl, sym, ◌∙◌}
-use native.Mathlib.Omega.{arith}
-use lib.ListN.{length, take, drop, length-set}
-use native.Mathlib.Nat.{le_refl, le_trans, sub-le, mul-le-mul_right}
-use Rattle.encode.specs.Encoding.{tables_given}
+use mathlib.Core.Path.{◌≡◌}
+use lib.ListN.{length, take, drop}
 use Rattle.compose.specs.Writing.{total, cut}
 use Rattle.compose.specs.InnerSizes.{SizedAs}
-use Rattle.compose.proofs.Sizes.{in_longest, room_back, place_back, length_lent, sized_none, sized_more}
-use Rattle.compose.proofs.Sizes.{sized_most, sized_all, places_start, places_done}
 use Rattle.compose.proofs.size_streams.Given as goal
 
 abbrev pub invariant-loop-k : goal.invariant-loop-k

@@ -1,8 +1,6 @@
-use Prim.Native.Nat.{◌+◌, ◌-◌, ◌*◌, ◌≤◌}
+use Prim.Native.Nat.{◌-◌}
 use mathlib.Core.Path.{◌≡◌}
 use native.Mathlib.Omega.{arith}
-use lib.ListN.{length, drop}
-use Rattle.compose.specs.Writing.{total}
 use Rattle.compose.proofs.Laws.{total_start, total_more}
 use Rattle.compose.proofs.total_of.Goals as goal
 

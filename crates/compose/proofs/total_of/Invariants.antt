@@ -1,10 +1,8 @@
 -- From the last back: the sum is that of the counts from i on.
-use Prim.Native.Nat.{◌+◌, ◌-◌, ◌*◌, ◌≤◌}
+use Prim.Native.Nat.{◌+◌, ◌*◌, ◌≤◌}
 use mathlib.Core.Path.{◌≡◌}
-use native.Mathlib.Omega.{arith}
 use lib.ListN.{length, drop}
 use Rattle.compose.specs.Writing.{total}
-use Rattle.compose.proofs.Laws.{total_start, total_more}
 use Rattle.compose.proofs.total_of.Given as goal
 
 abbrev pub invariant-loop-i : goal.invariant-loop-i

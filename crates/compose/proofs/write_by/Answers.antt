@@ -9,9 +9,6 @@ use Rattle.encode.proofs.Asked.{cleared_some, cleared_after}
 use Rattle.compose.proofs.write_by.Goals as goal
 use Rattle.compose.proofs.write_by.Goals.{After-hold_tables-held}
 
-abbrev start : After-hold_tables-held → Start
-start c = c
-
 inside : (c : After-hold_tables-held) → c.hold_tables-held.result ≤ length c.hold_tables-held.new.tab
 inside c = search rules
 
@@ -28,9 +25,9 @@ pub slice_bounds-write_found-end : goal.slice_bounds-write_found-end
 slice_bounds-write_found-end c = sym (held (goal.at.slice_bounds-write_found-end c).After-hold_tables-held)
 
 pub write_found-answer-requires : goal.write_found-answer-requires
-write_found-answer-requires c = 
-    let p = (start (goal.at.write_found-answer-requires c).After-hold_tables-held).requires in
-    record { sound = (p.0, c.hold_tables-held.ensures.1); counts_len_bound = (p.1, p.2); }
+write_found-answer-requires c =
+    let p = c.requires in
+    record { sound = (p.0, c.hold_tables-held.ensures.1); counts_len_bound = (p.1, p.2) }
 
 pub shape_of-work-then-held-eq0 : goal.shape_of-work-then-held-eq0
 shape_of-work-then-held-eq0 c = c.write_found-answer.auto.work
@@ -39,8 +36,8 @@ pub shape_of-out-then-held-eq0 : goal.shape_of-out-then-held-eq0
 shape_of-out-then-held-eq0 c = c.write_found-answer.auto.out
 
 pub returns-then-held-eq0 : goal.returns-then-held-eq0
-returns-then-held-eq0 c = 
-    let a = (start (goal.at.returns-then-held-eq0 c).After-hold_tables-held).args in
+returns-then-held-eq0 c =
+    let a = c.args in
     let w = c.write_found-answer in (
       w.ensures.0,
       w.ensures.1 (held (goal.at.returns-then-held-eq0 c).After-hold_tables-held ∙ c.if-held-eq0.true) ∙ ap (λ (n : ℕ). cleared_if n a.work.now) (sym c.if-held-eq0.true)
@@ -55,8 +52,8 @@ pub shape_of-out : goal.shape_of-out
 shape_of-out c = c.write_found-answer.auto.out
 
 pub returns : goal.returns
-returns c = 
-    let a = (start (goal.at.returns c).After-hold_tables-held).args in
+returns c =
+    let a = c.args in
     let h = c.hold_tables-held in
     let w = c.write_found-answer in (
       w.ensures.0,

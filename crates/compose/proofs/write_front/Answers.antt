@@ -1,72 +1,62 @@
 -- The pointers and Sections 1 to 3 are written before Section 6; then the size and the check.
-use Prim.Native.Nat.{ℕ, ◌+◌, ◌-◌, ◌≤◌}
-use mathlib.Core.Path.{◌≡◌, sym, ap, ◌∙◌}
+use Prim.Native.Nat.{ℕ, ◌+◌, ◌-◌, ◌*◌, ◌≤◌}
+use mathlib.Core.Path.{◌≡◌, refl, sym, ap, ◌∙◌}
 use mathlib.Core.List.{List, [], ◌++◌}
 use native.Mathlib.Omega.{arith}
 use borrow.Rule.Slice.PartMut.{put_mid, mid_len}
-use lib.ListN.{length}
-use Rattle.layout.specs.Layout.{section_length, leads_data}
-use Rattle.layout.proofs.Filled.{Filled, filled_from, filled_part, filled_length}
+use lib.ListN.{length, take, drop}
+use Rattle.layout.specs.Layout.{section_length, section2_size, leads_data}
+use Rattle.layout.proofs.Filled.{Filled, filled_from}
 use Rattle.layout.proofs.Laws.{given_bounds, length_leads_data}
 use Rattle.layout.proofs.Record.{record_put}
 use Rattle.compose.specs.InnerJob.{front_size}
+use Rattle.compose.proofs.Lengths.{next_written}
 use Rattle.compose.proofs.write_front.Goals as goal
 use Rattle.compose.proofs.write_front.Goals.{After-size_for-size3, After-write_pointers, After-write_sections}
 
-abbrev start : After-size_for-size3 → Start
-start c = c
+-- where Section 6 begins
+place : (count1 count2 leads size1 size2 size3 : ℕ) → size1 ≡ section_length count1 → size2 ≡ section2_size count2
+    → size3 ≡ section_length (2 + 9 * leads) → 142 + size1 + size2 + size3 ≡ front_size count1 count2 leads
+place count1 count2 leads size1 size2 size3 a b d = omega arith
 
-abbrev at6 : After-size_for-size3 → ℕ
-at6 c = 142 + c.size_for-size1.result + c.given_size-size2.result + c.size_for-size3.result
-
-place : (c : After-size_for-size3) → let a = (start c).args in
-    at6 c ≡ front_size (length a.section1.now) (length a.section2.now) (length a.counts.now)
-place c = omega (arith, c.size_for-size1.ensures, c.given_size-size2.ensures, c.size_for-size3.ensures)
-
-within : (c : After-size_for-size3) → at6 c ≤ length (start c).args.out.now
-within c = omega (arith, place c, (start c).requires.2)
+within : (c : After-size_for-size3) → 142 + c.size_for-size1.result + c.given_size-size2.result + c.size_for-size3.result ≤ length c.args.out.now
+within c =
+    omega (arith, place _ _ _ _ _ _ c.size_for-size1.ensures c.given_size-size2.ensures c.size_for-size3.ensures, c.requires.2)
 
 -- the pointers are written
-abbrev out0 : After-write_pointers → List ℕ
-out0 c = put_mid 6 136 (start c).args.out.now c.write_pointers.new.part
+pointers : (l w : List ℕ) → 142 ≤ length l → length w ≡ length (take (142 - 6) (drop 6 l))
+    → Filled l 6 ([] ++ w) 142 (put_mid 6 (142 - 6) l w) × (length (put_mid 6 (142 - 6) l w) ≡ length l)
+pointers l w h n = next_written w 142 (filled_from l 6 (omega arith), refl) (omega arith) h n
 
-filled0 : (c : After-write_pointers)
-    → Filled (start c).args.out.now 6 ([] ++ c.write_pointers.new.part) 142 (out0 c)
-filled0 c =
-    let out = (start c).args.out.now in
-    let w = within c in
-    filled_part c.write_pointers.new.part 142 (filled_from out 6 (omega (arith, w))) (omega arith)
-    (c.write_pointers.auto.part ∙ mid_len 6 142 out (omega (arith, w)))
-
-same0 : (c : After-write_pointers) → length (out0 c) ≡ length (start c).args.out.now
-same0 c = filled_length (filled0 c) (omega (arith, within c))
+one : (c : After-write_pointers) → let l = c.args.out.now in
+    let w0 = c.write_pointers.new.part in
+    Filled l 6 ([] ++ w0) 142 (put_mid 6 136 l w0) × (length (put_mid 6 136 l w0) ≡ length l)
+one c =
+    pointers c.args.out.now c.write_pointers.new.part
+    (omega (arith, place _ _ _ _ _ _ c.size_for-size1.ensures c.given_size-size2.ensures c.size_for-size3.ensures, c.requires.2))
+    c.write_pointers.auto.part
 
 -- and Sections 1 to 3
-abbrev first : After-write_sections → After-write_pointers
-first c = c
-
-abbrev sized : After-write_sections → After-size_for-size3
-sized c = (first c).before.before
-
-abbrev out1 : After-write_sections → List ℕ
-out1 c = put_mid 142 (at6 (sized c) - 142) (out0 (first c)) c.write_sections.new.part
-
-filled1 : (c : After-write_sections)
-    → Filled (start (sized c)).args.out.now 6 (([] ++ (first c).write-pointers.new.0) ++ c.write_sections.new.part)
-    (at6 (sized c)) (out1 c)
-filled1 c =
-    filled_part c.write_sections.new.part (at6 (sized c)) (filled0 (first c)) (omega arith)
-    (c.write_sections.auto.part ∙ mid_len 142 (at6 (sized c)) (out0 (first c)) (omega (arith, within (sized c), same0 (first c))))
-
-same1 : (c : After-write_sections) → length (out1 c) ≡ length (start (sized c)).args.out.now
-same1 c = filled_length (filled1 c) (within (sized c))
+two : (c : After-write_sections) → let l = c.args.out.now in
+    let at6 = 142 + c.size_for-size1.result + c.given_size-size2.result + c.size_for-size3.result in
+    let w0 = c.write_pointers.new.part in
+    let w1 = c.write_sections.new.part in
+    let x = put_mid 142 (at6 - 142) (put_mid 6 136 l w0) w1 in
+    (at6 ≤ length l) × Filled l 6 (([] ++ w0) ++ w1) at6 x × (length x ≡ length l)
+two c =
+    let at6 = 142 + c.size_for-size1.result + c.given_size-size2.result + c.size_for-size3.result in
+    let h : at6 ≤ length c.args.out.now =
+    omega (arith, place _ _ _ _ _ _ c.size_for-size1.ensures c.given_size-size2.ensures c.size_for-size3.ensures, c.requires.2) in
+    let f =
+    next_written c.write_sections.new.part at6
+    (pointers c.args.out.now c.write_pointers.new.part (omega arith) c.write_pointers.auto.part) (omega arith) h c.write_sections.auto.part in
+    (h, f.0, f.1)
 
 pub size_for-size1-requires : goal.size_for-size1-requires
 size_for-size1-requires c = let p = c.requires in omega (arith, p.1, p.2)
 
 pub given_size-size2-requires : goal.given_size-size2-requires
-given_size-size2-requires c = 
-    omega (arith, (given_bounds (length c.args.section2.now)).0, c.requires.1, c.requires.2)
+given_size-size2-requires c = omega (arith, (given_bounds (length c.args.section2.now)).0, c.requires.1, c.requires.2)
 
 pub overflow_mul-counts : goal.overflow_mul-counts
 overflow_mul-counts c = omega (arith, c.requires.0.2)
@@ -78,13 +68,13 @@ pub size_for-size3-requires : goal.size_for-size3-requires
 size_for-size3-requires c = omega (arith, c.requires.0.2)
 
 pub overflow_add-at6 : goal.overflow_add-at6
-overflow_add-at6 c = omega (arith, within c, (start c).requires.1)
+overflow_add-at6 c = omega (arith, within c, c.requires.1)
 
 pub overflow_add-at6-2 : goal.overflow_add-at6-2
-overflow_add-at6-2 c = omega (arith, within c, (start c).requires.1)
+overflow_add-at6-2 c = omega (arith, within c, c.requires.1)
 
 pub overflow_add-at6-3 : goal.overflow_add-at6-3
-overflow_add-at6-3 c = omega (arith, within c, (start c).requires.1)
+overflow_add-at6-3 c = omega (arith, within c, c.requires.1)
 
 pub overflow_sub-size6 : goal.overflow_sub-size6
 overflow_sub-size6 c = within c
@@ -94,35 +84,44 @@ slice_bounds-write_pointers-end c = omega (arith, within c)
 
 pub write_pointers-requires : goal.write_pointers-requires
 write_pointers-requires c = let w = within (goal.at.write_pointers-requires c).After-size_for-size3 in
-    (mid_len 6 142 (start (goal.at.write_pointers-requires c).After-size_for-size3).args.out.now (omega (arith, w)), omega (arith, w, (start (goal.at.write_pointers-requires c).After-size_for-size3).requires.1))
+    (mid_len 6 142 c.args.out.now (omega (arith, w)), omega (arith, w, c.requires.1))
 
 pub slice_bounds-write_sections-end : goal.slice_bounds-write_sections-end
-slice_bounds-write_sections-end c = 
-    omega (arith, within (goal.at.slice_bounds-write_sections-end c).After-size_for-size3, same0 (goal.at.slice_bounds-write_sections-end c).After-write_pointers)
+slice_bounds-write_sections-end c =
+    omega (
+      arith,
+      within (goal.at.slice_bounds-write_sections-end c).After-size_for-size3,
+      (one (goal.at.slice_bounds-write_sections-end c).After-write_pointers).1,
+    )
 
 pub write_sections-requires : goal.write_sections-requires
-write_sections-requires c = 
-    let m = mid_len 142 (at6 (goal.at.write_sections-requires c).After-size_for-size3) (out0 (goal.at.write_sections-requires c).After-write_pointers) (omega (arith, within (goal.at.write_sections-requires c).After-size_for-size3, same0 (goal.at.write_sections-requires c).After-write_pointers)) in
-    ((start (goal.at.write_sections-requires c).After-size_for-size3).requires.0, omega (arith, m, within (goal.at.write_sections-requires c).After-size_for-size3, (start (goal.at.write_sections-requires c).After-size_for-size3).requires.1), omega (arith, m, place (goal.at.write_sections-requires c).After-size_for-size3))
+write_sections-requires c =
+    let w = within (goal.at.write_sections-requires c).After-size_for-size3 in
+    let at6 = 142 + c.size_for-size1.result + c.given_size-size2.result + c.size_for-size3.result in
+    let e = place _ _ _ _ _ _ c.size_for-size1.ensures c.given_size-size2.ensures c.size_for-size3.ensures in
+    let m = mid_len 142 at6 (put_mid 6 136 c.args.out.now c.write_pointers.new.part)
+    (omega (arith, w, (one (goal.at.write_sections-requires c).After-write_pointers).1)) in
+    (c.requires.0, omega (arith, m, w, c.requires.1), omega (arith, m, e))
 
 pub seal_record-requires : goal.seal_record-requires
-seal_record-requires c = 
-    omega (arith, same1 (goal.at.seal_record-requires c).After-write_sections, within (sized (goal.at.seal_record-requires c).After-write_sections))
+seal_record-requires c = let w = two (goal.at.seal_record-requires c).After-write_sections in omega (arith, w.2, w.0)
 
 pub shape_of-out : goal.shape_of-out
-shape_of-out c = c.seal_record.auto.out ∙ same1 (goal.at.shape_of-out c).After-write_sections
+shape_of-out c = c.seal_record.auto.out ∙ (two (goal.at.shape_of-out c).After-write_sections).2
 
 pub returns : goal.returns
-returns c = 
-    let z = sized (goal.at.returns c).After-write_sections in
-    let a = (start z).args in
-    let p = (start z).pre.0 in
-    let w0 = (first (goal.at.returns c).After-write_sections).write-pointers in
+returns c =
+    let a = c.args in
+    let p = c.requires.0 in
+    let w = two (goal.at.returns c).After-write_sections in
     let n3 = length_leads_data a.head.flags a.firsts.now a.counts.now a.ids.now p.0 p.1 in
+    let at6 = 142 + c.size_for-size1.result + c.given_size-size2.result + c.size_for-size3.result in
+    let e = place _ _ _ _ _ _ c.size_for-size1.ensures c.given_size-size2.ensures c.size_for-size3.ensures in
     λ data6 h.
     record_put a.head.version a.section1.now a.section2.now
     (leads_data a.head.flags a.firsts.now a.counts.now a.ids.now) data6
-    a.out.now (out1 (goal.at.returns c).After-write_sections) c.seal_record.new.out w0.last.0 c.write_sections.new.part
-    z.before.before.size_for_lem.result z.before.given-size.result z.size-for2.result
-    z.before.before.size_for_lem.ensures z.before.given-size.ensures (z.size-for2.ensures ∙ ap section_length (sym n3)) (within z)
-    (filled1 (goal.at.returns c).After-write_sections) w0.ensures c.write_sections.ensures (rw (place z) h) c.seal_record.ensures
+    a.out.now (put_mid 142 (at6 - 142) (put_mid 6 136 a.out.now c.write_pointers.new.part) c.write_sections.new.part)
+    c.seal_record.new.out c.write_pointers.new.part c.write_sections.new.part
+    c.size_for-size1.result c.given_size-size2.result c.size_for-size3.result
+    c.size_for-size1.ensures c.given_size-size2.ensures (c.size_for-size3.ensures ∙ ap section_length (sym n3)) w.0
+    w.1 c.write_pointers.ensures c.write_sections.ensures (rw e h) c.seal_record.ensures

@@ -1,6 +1,5 @@
 -- Empty data have no section.
 use mathlib.Core.Path.{sym, ◌∙◌}
-use borrow.Author.Rules.{rules}
 use lib.ListN.{length}
 use Rattle.layout.proofs.Laws.{given_none, given_some, given_sized}
 use Rattle.compose.proofs.write_given.Goals as goal

@@ -2,7 +2,6 @@
 use Prim.Native.Nat.{◌+◌, ◌-◌, ◌*◌}
 use mathlib.Core.Path.{◌≡◌, refl, ap, ◌∙◌}
 use native.Mathlib.Omega.{arith}
-use borrow.Author.Rules.{rules}
 use lib.ListN.{length}
 use borrow.Rule.Slice.PartMut.{put_mid, mid_len, same_len_mid}
 use Rattle.layout.specs.Layout.{streams_data}
@@ -19,10 +18,10 @@ put_streams-requires c = let a = c.args in
     let h = c.write_streams_head in
     let from = 22 + 2 * length a.sizes.now in
     let m = mid_len from (from + t.result) h.new.part (omega (arith, h.auto.part, p.counts_len_bound.4, t.ensures.0)) in
-    record { sound = p.sound; sizes_len = (p.counts_len_bound.2, omega (arith, m, t.ensures.0), p.counts_len_bound.3); }
+    record { sound = p.sound; sizes_len = (p.counts_len_bound.2, omega (arith, m, t.ensures.0), p.counts_len_bound.3) }
 
 pub put_spare-requires : goal.put_spare-requires
-put_spare-requires c = 
+put_spare-requires c =
     let t = c.total_of in
     let h = c.write_streams_head in
     let b = c.put_streams in
@@ -31,11 +30,11 @@ put_spare-requires c =
     (omega (arith, e, h.auto.part, c.requires.counts_len_bound.4, t.ensures.0), omega (arith, e, h.auto.part, c.requires.counts_len_bound.4, t.ensures.0))
 
 pub shape_of-work : goal.shape_of-work
-shape_of-work c = 
+shape_of-work c =
     c.put_streams.auto.work
 
 pub returns : goal.returns
-returns c = 
+returns c =
     let a = c.args in
     let p = c.requires in
     let t = c.total_of in
