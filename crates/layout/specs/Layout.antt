@@ -1,7 +1,7 @@
 -- The bytes of a record as the writer writes it (01, The record; 01, Leads and samples; 01, Refusal numbers, the paragraphs under the
 -- table): Section 0 with twelve pointers, then Sections 1, 2 if it is given, 3 and 6, each behind the one before it; the version byte
 -- is in both places of every header, and a byte that is reserved or spare is 0, but for Section 0's letters.
-use Rattle.std.specs.Prelude.{ℕ, zero, suc, ◌+◌, ◌-◌, ◌%◌, cond, List, [], ◌∷◌, ◌++◌, eqb, length, replicate}
+use Rattle.std.specs.Prelude.{ℕ, ◌+◌, ◌-◌, ◌%◌, cond, List, [], ◌∷◌, ◌++◌, eqb, length, replicate}
 use Rattle.wire.specs.Numbers.{bytes_of}
 use Rattle.wire.specs.Check.{crc_of}
 

@@ -6,7 +6,7 @@ use Prim.Native.Nat.{ℕ, zero, suc, ◌+◌, ◌*◌, ◌/◌, ◌%◌, ◌^◌
 use native.Mathlib.Nat.{mod-eq_of_lt}
 use native.Mathlib.Omega.{arith}
 use lib.ListN.{length, get_or, drop}
-use lib.Bits.{bit_xor, xor_zero_l, xor_zero_r, xor_comm, xor_lt, xor_shr, xor_mod}
+use lib.Bits.{bit_xor, xor_zero_l, xor_zero_r, xor_comm, xor_shr, xor_mod}
 use Rattle.wire.specs.RuleWords.{each, all_in}
 use Rattle.wire.specs.Check.{crc_bit, crc_bits, crc_byte, crc_from}
 use Rattle.wire.specs.InnerCheck.{fed, quotient}

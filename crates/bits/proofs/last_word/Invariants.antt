@@ -1,16 +1,10 @@
 -- At every turn the bytes still to come, and the zeros behind them, lead the number, as it is, to that of all eight; the zeros alone move
 -- it up (`zeros_after`).
-use mathlib.Core.Path.{◌≡◌, refl, sym, ◌∙◌}
+use mathlib.Core.Path.{◌≡◌}
 use mathlib.Core.List.{◌++◌}
 use Prim.Native.Nat.{◌+◌, ◌-◌, ◌*◌, ◌^◌, ◌≤◌, ◌<◌}
-use native.Mathlib.Nat.{mod-eq_of_lt, zero-mul}
-use native.Mathlib.Omega.{arith}
-use lib.ListN.{length, get_or, take, drop, replicate, length-append, length-drop, get_or-append}
-use lib.Seq.{length-take-le}
-use borrow.Author.Rules.{rules}
+use lib.ListN.{length, take, drop, replicate}
 use Rattle.bits.specs.Bits.{bits_in, number_after, number_of}
-use Rattle.bits.proofs.Laws.{digits_more, digits_room, length_bits_in, small_take, small_drop, small_bits_in, number_small}
-use Rattle.bits.proofs.Windows.{byte_more, zeros_after}
 use Rattle.bits.proofs.last_word.Given as goal
 
 abbrev pub invariant-loop-k : goal.invariant-loop-k

@@ -1,11 +1,8 @@
 -- At every turn the bits still to come lead the number, as it is, to the definition's answer; after the last the number is that answer.
 use mathlib.Core.Path.{◌≡◌}
-use Prim.Native.Nat.{suc, ◌+◌, ◌-◌, ◌^◌, ◌≤◌, ◌<◌}
-use native.Mathlib.Omega.{arith}
-use borrow.Author.Rules.{rules}
+use Prim.Native.Nat.{◌-◌, ◌^◌, ◌≤◌, ◌<◌}
 use Rattle.bits.specs.Bits.{low_first, number_after}
 use Rattle.bits.specs.InnerWindow.{turned}
-use Rattle.bits.proofs.Laws.{digits_more, digits_room}
 use Rattle.bits.proofs.turn.Given as goal
 
 abbrev pub invariant-loop-k : goal.invariant-loop-k

@@ -5,7 +5,6 @@ use mathlib.Core.List.{◌++◌}
 use Prim.Native.Nat.{◌+◌, ◌/◌, ◌≤◌}
 use native.Mathlib.Omega.{arith}
 use lib.ListN.{length, replicate, length-append, length-drop}
-use borrow.Author.Rules.{rules}
 use Rattle.bits.specs.Bits.{bits_in, number_of}
 use Rattle.bits.proofs.Laws.{length_bits_in}
 use Rattle.bits.proofs.Windows.{window_of, bits_before}

@@ -4,7 +4,6 @@ use mathlib.Core.List.{List}
 use Prim.Native.Nat.{ℕ, ◌+◌, ◌*◌, ◌≤◌, ◌<◌}
 use native.Mathlib.Omega.{arith}
 use lib.ListN.{length, get_or, take, drop}
-use borrow.Author.Rules.{rules}
 use Rattle.bits.specs.Bits.{bits_in, number_after, number_of}
 use Rattle.bits.proofs.Windows.{byte_more}
 use Rattle.bits.proofs.word.Goals as goal

@@ -1,12 +1,10 @@
-use Prim.Native.Nat.{◌+◌, ◌-◌, ◌*◌, ◌≤◌}
+use Prim.Native.Nat.{◌+◌, ◌-◌, ◌*◌}
 use mathlib.Core.Path.{◌≡◌, ◌∙◌}
 use native.Mathlib.Omega.{arith}
-use lib.ListN.{length}
 use Rattle.layout.specs.Layout.{absent}
 use Rattle.layout.specs.InnerPointers.{absents}
-use Rattle.layout.proofs.Filled.{Filled, filled_from, filled_put}
+use Rattle.layout.proofs.Filled.{filled_from, filled_put}
 use Rattle.layout.proofs.Laws.{length_pointer_bytes, absents_more}
-use borrow.Author.Rules.{rules}
 use Rattle.layout.proofs.put_absent.Goals as goal
 
 pub loop-id-init : goal.loop-id-init

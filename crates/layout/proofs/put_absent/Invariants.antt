@@ -1,13 +1,9 @@
 -- With the pointers up to an ID put, the part is filled up to that ID's place; a turn puts the next.
 use Prim.Native.Nat.{◌+◌, ◌-◌, ◌*◌, ◌≤◌}
-use mathlib.Core.Path.{◌≡◌, ◌∙◌}
-use native.Mathlib.Omega.{arith}
+use mathlib.Core.Path.{◌≡◌}
 use lib.ListN.{length}
-use Rattle.layout.specs.Layout.{absent}
 use Rattle.layout.specs.InnerPointers.{absents}
-use Rattle.layout.proofs.Filled.{Filled, filled_from, filled_put}
-use Rattle.layout.proofs.Laws.{length_pointer_bytes, absents_more}
-use borrow.Author.Rules.{rules}
+use Rattle.layout.proofs.Filled.{Filled}
 use Rattle.layout.proofs.put_absent.Given as goal
 
 abbrev pub invariant-loop-id : goal.invariant-loop-id

@@ -5,7 +5,6 @@ use mathlib.Core.List.{◌++◌}
 use native.Mathlib.Omega.{arith}
 use lib.ListN.{length, drop, length-drop}
 use lib.Seq.{take_all}
-use borrow.Author.Rules.{rules}
 use Rattle.wire.specs.Numbers.{bytes_of}
 use Rattle.wire.specs.Check.{crc_of}
 use Rattle.layout.specs.Layout.{checked}

@@ -1,12 +1,11 @@
-use Prim.Native.Nat.{◌+◌, ◌-◌, ◌*◌, ◌≤◌}
+use Prim.Native.Nat.{◌+◌, ◌*◌}
 use mathlib.Core.Path.{◌≡◌, refl, ◌∙◌}
 use native.Mathlib.Omega.{arith}
-use lib.ListN.{length, get_or, take}
+use lib.ListN.{length, get_or}
 use lib.Seq.{take-length}
 use Rattle.layout.specs.InnerCounts.{byte_counts}
-use Rattle.layout.proofs.Filled.{Filled, filled_from, filled_number}
+use Rattle.layout.proofs.Filled.{filled_from, filled_number}
 use Rattle.layout.proofs.Laws.{counts_more}
-use borrow.Author.Rules.{rules}
 use Rattle.layout.proofs.put_counts.Goals as goal
 
 pub loop-k-init : goal.loop-k-init

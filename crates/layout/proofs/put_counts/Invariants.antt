@@ -1,13 +1,9 @@
 -- With k byte counts put, the part is filled up to the next one's place; a turn puts it.
 use Prim.Native.Nat.{◌+◌, ◌-◌, ◌*◌, ◌≤◌}
-use mathlib.Core.Path.{◌≡◌, refl, ◌∙◌}
-use native.Mathlib.Omega.{arith}
-use lib.ListN.{length, get_or, take}
-use lib.Seq.{take-length}
+use mathlib.Core.Path.{◌≡◌}
+use lib.ListN.{length, take}
 use Rattle.layout.specs.InnerCounts.{byte_counts}
-use Rattle.layout.proofs.Filled.{Filled, filled_from, filled_number}
-use Rattle.layout.proofs.Laws.{counts_more}
-use borrow.Author.Rules.{rules}
+use Rattle.layout.proofs.Filled.{Filled}
 use Rattle.layout.proofs.put_counts.Given as goal
 
 abbrev pub invariant-loop-k : goal.invariant-loop-k

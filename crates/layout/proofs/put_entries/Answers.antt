@@ -1,13 +1,12 @@
-use Prim.Native.Nat.{◌+◌, ◌-◌, ◌*◌, ◌≤◌}
+use Prim.Native.Nat.{◌+◌, ◌*◌}
 use mathlib.Core.Path.{◌≡◌, refl, ◌∙◌}
 use native.Mathlib.Omega.{arith}
-use lib.ListN.{length, get_or, take}
+use lib.ListN.{length, get_or}
 use lib.Seq.{take_all}
 use Rattle.layout.specs.Layout.{entries_of}
 use Rattle.layout.specs.InnerLeads.{entry_bytes}
-use Rattle.layout.proofs.Filled.{Filled, filled_from, filled_put}
+use Rattle.layout.proofs.Filled.{filled_from, filled_put}
 use Rattle.layout.proofs.Laws.{length_entry_bytes, entries_more}
-use borrow.Author.Rules.{rules}
 use Rattle.layout.proofs.put_entries.Goals as goal
 
 pub loop-k-init : goal.loop-k-init

@@ -1,14 +1,9 @@
 -- With the entries of k leads put, the part is filled up to the next one's place; a turn puts it.
 use Prim.Native.Nat.{◌+◌, ◌-◌, ◌*◌, ◌≤◌}
-use mathlib.Core.Path.{◌≡◌, refl, ◌∙◌}
-use native.Mathlib.Omega.{arith}
-use lib.ListN.{length, get_or, take}
-use lib.Seq.{take_all}
+use mathlib.Core.Path.{◌≡◌}
+use lib.ListN.{length, take}
 use Rattle.layout.specs.Layout.{entries_of}
-use Rattle.layout.specs.InnerLeads.{entry_bytes}
-use Rattle.layout.proofs.Filled.{Filled, filled_from, filled_put}
-use Rattle.layout.proofs.Laws.{length_entry_bytes, entries_more}
-use borrow.Author.Rules.{rules}
+use Rattle.layout.proofs.Filled.{Filled}
 use Rattle.layout.proofs.put_entries.Given as goal
 
 abbrev pub invariant-loop-k : goal.invariant-loop-k

@@ -6,7 +6,6 @@ use native.Mathlib.Omega.{arith}
 use lib.ListN.{length-set}
 use Rattle.layout.specs.InnerLeads.{entry_bytes}
 use Rattle.layout.proofs.Filled.{filled_from, filled_number, filled_store}
-use borrow.Author.Rules.{rules}
 use Rattle.layout.proofs.put_entry.Goals as goal
 
 pub shape_of-part : goal.shape_of-part

@@ -5,7 +5,6 @@ use Prim.Native.Nat.{◌+◌}
 use native.Mathlib.Omega.{arith}
 use Rattle.layout.specs.Layout.{pointer_bytes}
 use Rattle.layout.proofs.Filled.{filled_from, filled_number}
-use borrow.Author.Rules.{rules}
 use Rattle.layout.proofs.put_pointer.Goals as goal
 
 pub returns : goal.returns

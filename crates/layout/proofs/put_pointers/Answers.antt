@@ -10,7 +10,6 @@ use Rattle.layout.specs.Layout.{pointer_bytes}
 use Rattle.layout.specs.InnerPointers.{absents}
 use Rattle.layout.proofs.Filled.{filled_from, filled_put}
 use Rattle.layout.proofs.Laws.{length_pointer_bytes, length_absents, pointers_are}
-use borrow.Author.Rules.{rules}
 use Rattle.layout.proofs.put_pointers.Goals as goal
 
 pub returns : goal.returns

@@ -5,7 +5,6 @@ use Prim.Native.Nat.{suc, ◌-◌}
 use native.Mathlib.Omega.{arith}
 use lib.ListN.{length, take, drop, drop_of_length-le}
 use lib.Seq.{take_all, set_split}
-use borrow.Author.Rules.{rules}
 use Rattle.layout.proofs.put_spare.Goals as goal
 
 pub returns-then-part-end : goal.returns-then-part-end

@@ -1,7 +1,6 @@
 -- The six bytes lent as reserved are 0; around evened data that is the section (`sealed_is`).
 use Rattle.layout.specs.Layout.{zero_reserved}
 use Rattle.layout.proofs.Laws.{sealed_is}
-use borrow.Author.Rules.{rules}
 use Rattle.layout.proofs.seal.Goals as goal
 
 pub returns : goal.returns

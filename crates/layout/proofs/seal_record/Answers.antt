@@ -4,7 +4,6 @@ use native.Mathlib.Omega.{arith}
 use lib.ListN.{length}
 use Rattle.layout.specs.Layout.{checked}
 use Rattle.layout.proofs.Filled.{filled_from, filled_number, filled_behind}
-use borrow.Author.Rules.{rules}
 use Rattle.layout.proofs.seal_record.Goals as goal
 
 pub returns : goal.returns

@@ -3,7 +3,6 @@ use mathlib.Core.Path.{◌≡◌, refl, ap, ◌∙◌}
 use mathlib.Core.List.{append_assoc}
 use native.Mathlib.Omega.{arith}
 use lib.ListN.{length, length-set}
-use borrow.Author.Rules.{rules}
 use Rattle.layout.specs.Layout.{checked}
 use Rattle.layout.proofs.Filled.{filled_from, filled_put, filled_number, filled_store, filled_behind}
 use Rattle.layout.proofs.seal_with.Goals as goal

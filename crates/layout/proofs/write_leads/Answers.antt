@@ -6,7 +6,6 @@ use lib.ListN.{length, length-set}
 use Rattle.layout.specs.Layout.{entries_of, leads_data}
 use Rattle.layout.proofs.Filled.{filled_from, filled_put, filled_store}
 use Rattle.layout.proofs.Laws.{spare_put, length_entries_of, length_leads_data}
-use borrow.Author.Rules.{rules}
 use Rattle.layout.proofs.write_leads.Goals as goal
 
 pub bounds-part-17 : goal.bounds-part-17

@@ -5,7 +5,6 @@ use lib.ListN.{take, drop}
 use lib.Seq.{drop_at, length-take-le}
 use Rattle.layout.specs.Layout.{letters, pointers_data}
 use Rattle.layout.proofs.Laws.{sealed_is, evened_even, length_pointers_data}
-use borrow.Author.Rules.{rules}
 use Rattle.layout.proofs.write_pointers.Goals as goal
 
 pub returns : goal.returns

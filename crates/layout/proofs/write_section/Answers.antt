@@ -5,7 +5,6 @@ use native.Mathlib.Omega.{arith}
 use lib.ListN.{length}
 use Rattle.layout.proofs.Filled.{filled_from, filled_put}
 use Rattle.layout.proofs.Laws.{spare_put}
-use borrow.Author.Rules.{rules}
 use Rattle.layout.proofs.write_section.Goals as goal
 
 pub returns : goal.returns

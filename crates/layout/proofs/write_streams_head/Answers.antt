@@ -7,7 +7,6 @@ use lib.ListN.{length, length-set}
 use Rattle.layout.specs.InnerCounts.{byte_counts}
 use Rattle.layout.proofs.Filled.{filled_from, filled_put, filled_number, filled_store}
 use Rattle.layout.proofs.Laws.{length_byte_counts}
-use borrow.Author.Rules.{rules}
 use Rattle.layout.proofs.write_streams_head.Goals as goal
 
 pub bounds-part-21 : goal.bounds-part-21

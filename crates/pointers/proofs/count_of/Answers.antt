@@ -1,6 +1,5 @@
 -- The quotient is tested against 64, as the definition's `min` does; a length below 16 leaves none.
 use native.Mathlib.Omega.{arith}
-use borrow.Author.Rules.{rules}
 use Rattle.pointers.specs.Pointers.{count_of}
 use Rattle.pointers.proofs.count_of.Goals as goal
 

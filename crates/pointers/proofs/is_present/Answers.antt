@@ -2,7 +2,6 @@
 use mathlib.Core.Path.{sym, ap, ◌∙◌}
 use mathlib.Core.Bool.{not}
 use borrow.Author.Tests.{eq-eqb, ne_eqb}
-use borrow.Author.Rules.{rules}
 use Rattle.pointers.proofs.is_present.Goals as goal
 
 pub returns-then-length_of-eq0 : goal.returns-then-length_of-eq0

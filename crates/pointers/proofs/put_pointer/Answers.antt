@@ -1,13 +1,12 @@
 -- The three stores put the pointer's three numbers one after the other (`sets-eq`), and the rest stays.
 use mathlib.Core.Path.{◌≡◌, ◌∙◌}
 use mathlib.Core.List.{append_assoc}
-use Prim.Native.Nat.{ℕ, suc, ◌+◌, ◌*◌, ◌≤◌}
+use Prim.Native.Nat.{suc, ◌+◌, ◌*◌}
 use native.Mathlib.Numerals.{add-one}
 use native.Mathlib.Omega.{arith}
-use lib.ListN.{take, drop, length, length-set}
+use lib.ListN.{take, drop, length-set}
 use lib.Seq.{sets-eq}
 use Rattle.pointers.specs.Pointers.{pointers_from}
-use borrow.Author.Rules.{rules}
 use Rattle.pointers.proofs.put_pointer.Goals as goal
 
 pub bounds-pointers-at-2 : goal.bounds-pointers-at-2

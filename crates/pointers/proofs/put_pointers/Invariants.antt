@@ -1,12 +1,9 @@
 -- With k pointers put, the numbers are those of the first k, then as they were; a turn puts the next three.
-use Prim.Native.Nat.{ℕ, ◌+◌, ◌≤◌, ◌-◌, ◌*◌}
-use mathlib.Core.Path.{◌≡◌, refl, sym, ap, ◌∙◌}
-use mathlib.Core.List.{List, ◌++◌}
-use native.Mathlib.Omega.{arith}
-use lib.ListN.{length, take, drop}
-use borrow.Author.Rules.{rules}
+use Prim.Native.Nat.{◌≤◌, ◌-◌, ◌*◌}
+use mathlib.Core.Path.{◌≡◌}
+use mathlib.Core.List.{◌++◌}
+use lib.ListN.{length, drop}
 use Rattle.pointers.specs.Pointers.{pointers_from}
-use Rattle.pointers.proofs.Laws.{put_turn}
 use Rattle.pointers.proofs.put_pointers.Given as goal
 
 abbrev pub invariant-loop-k : goal.invariant-loop-k

@@ -1,7 +1,5 @@
 -- The part is taken from the section's own start up to its end.
-use mathlib.Core.Path.{◌∙◌}
 use Rattle.pointers.specs.Pointers.{section_of}
-use borrow.Author.Rules.{rules}
 use Rattle.pointers.proofs.section_of.Goals as goal
 
 pub returns : goal.returns

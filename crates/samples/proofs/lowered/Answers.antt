@@ -1,6 +1,5 @@
 -- The casts and the difference give the sample.
 use mathlib.Core.Path.{ap, ◌∙◌}
-use borrow.Author.Rules.{rules}
 use lib.IntN.{ℤ}
 use mir.Syntax.{w16}
 use mir.Val.{to_z, of_z}

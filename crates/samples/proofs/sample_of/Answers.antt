@@ -1,7 +1,6 @@
 -- Each case is one of the definition's, and what is added on either side is the same.
 use Prim.Native.Nat.{◌+◌, ◌*◌, ◌-◌}
 use native.Mathlib.Omega.{arith}
-use borrow.Author.Rules.{rules}
 use Rattle.bits.specs.InnerRaised.{from_zero}
 use Rattle.bits.proofs.Raised.{lower_same, lower_plus, lower_minus}
 use Rattle.samples.proofs.Laws.{sample_plain, sample_one, sample_two}

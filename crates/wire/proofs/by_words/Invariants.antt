@@ -1,9 +1,8 @@
 -- At every turn the bytes still to come lead the register that the word leaves to the definition's answer; those behind the last turn are taken
 -- one by one.
-use mathlib.Core.Path.{◌≡◌, refl, sym, ap, ◌∙◌}
-use Prim.Native.Nat.{ℕ, ◌+◌, ◌-◌, ◌≤◌}
+use mathlib.Core.Path.{◌≡◌}
+use Prim.Native.Nat.{◌-◌, ◌≤◌}
 use lib.ListN.{length, drop}
-use borrow.Author.Rules.{rules}
 use Rattle.wire.specs.Check.{crc_from}
 use Rattle.wire.specs.InnerCheck.{fed}
 use Rattle.wire.proofs.by_words.Given as goal

@@ -1,15 +1,10 @@
 -- The bytes seen so far are bytes: each is where it is read. Assumes nothing.
 use Prim.Native.Nat.{ℕ, ◌≤◌, ◌-◌}
-use mathlib.Core.Path.{◌≡◌, refl}
+use mathlib.Core.Path.{◌≡◌}
 use mathlib.Core.Bool.{true}
-use native.Mathlib.Numerals.{add-one}
-use native.Mathlib.Omega.{arith}
-use borrow.Author.Tests.{lt-ltb}
 use lib.Dec.{ltb}
-use lib.ListN.{length, get_or, take}
-use lib.Seq.{take_all, take-suc}
+use lib.ListN.{length, take}
 use Rattle.wire.specs.RuleWords.{every}
-use Rattle.wire.proofs.Every.{every_more}
 use Rattle.wire.proofs.bytes_fit.Given as goal
 
 abbrev pub invariant-loop-i : goal.invariant-loop-i

@@ -1,6 +1,6 @@
-use mathlib.Core.Path.{◌≡◌, sym, ap, ◌∙◌}
-use Prim.Native.Nat.{ℕ, ◌+◌, ◌-◌, ◌≤◌}
-use lib.ListN.{length, drop}
+use mathlib.Core.Path.{sym, ap, ◌∙◌}
+use Prim.Native.Nat.{ℕ, ◌+◌}
+use lib.ListN.{drop}
 use borrow.Author.Rules.{rules}
 use Rattle.wire.specs.Check.{crc_from, crc_of}
 use Rattle.wire.specs.InnerCheck.{fed_all, words_in}

@@ -1,12 +1,10 @@
 -- At every turn the bytes still to come lead the register that the words leave to the definition's answer; those behind the last turn are taken
 -- word by word.
-use mathlib.Core.Path.{◌≡◌, sym, ap, ◌∙◌}
-use Prim.Native.Nat.{ℕ, ◌+◌, ◌-◌, ◌≤◌}
+use mathlib.Core.Path.{◌≡◌}
+use Prim.Native.Nat.{◌-◌, ◌≤◌}
 use lib.ListN.{length, drop}
-use borrow.Author.Rules.{rules}
 use Rattle.wire.specs.Check.{crc_from, crc_of}
 use Rattle.wire.specs.InnerCheck.{fed_all, words_in}
-use Rattle.wire.proofs.Turns.{preset_word, preset_words}
 use Rattle.wire.proofs.crc.Given as goal
 
 abbrev pub invariant-loop-i : goal.invariant-loop-i

@@ -2,7 +2,6 @@
 use lib.Bits.{bit_xor}
 use Prim.Native.Nat.{◌*◌}
 use native.Mathlib.Omega.{arith}
-use borrow.Author.Rules.{rules}
 use Rattle.wire.specs.Check.{crc_byte}
 use Rattle.wire.proofs.Laws.{mixed_small}
 use Rattle.wire.proofs.Powers.{eight, eight_bits}

@@ -1,5 +1,4 @@
 -- The two tests are the definition's, in its order.
-use borrow.Author.Rules.{rules}
 use borrow.Author.Tests.{le-leb, lt-leb}
 use Rattle.wire.specs.RuleWords.{ends_by}
 use Rattle.wire.proofs.ends_by.Goals as goal

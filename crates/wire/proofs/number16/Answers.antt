@@ -1,7 +1,6 @@
 -- A number of two bytes is, by its definition, what the two calls of `byte` give; past the end it is 0.
 use mathlib.Core.Path.{sym}
 use native.Mathlib.Omega.{arith}
-use borrow.Author.Rules.{rules}
 use Rattle.wire.specs.Numbers.{number_at}
 use Rattle.wire.proofs.Laws.{number_past}
 use Rattle.wire.proofs.number16.Goals as goal

@@ -1,7 +1,6 @@
 -- A number of four bytes is two of two bytes each, as the two calls of `number16` give them; past the end it is 0.
 use mathlib.Core.Path.{sym}
 use native.Mathlib.Omega.{arith}
-use borrow.Author.Rules.{rules}
 use Rattle.wire.proofs.Laws.{number_past, number_parts}
 use Rattle.wire.proofs.number32.Goals as goal
 

@@ -6,7 +6,6 @@ use native.Mathlib.Nat.{mod-mod}
 use native.Mathlib.Omega.{arith}
 use lib.ListN.{length, take, drop, length-append, length-take}
 use lib.Pow.{field}
-use borrow.Author.Rules.{rules}
 use Rattle.wire.specs.Numbers.{bytes_of}
 use Rattle.wire.proofs.Laws.{length_bytes_of, put_next}
 use Rattle.wire.proofs.put32.Goals as goal

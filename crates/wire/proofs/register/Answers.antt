@@ -1,7 +1,6 @@
 -- The quotients and the remainder, as the law has them.
 use native.Mathlib.Omega.{arith}
 use Rattle.wire.proofs.WordLaws.{remainder, remainder_word}
-use borrow.Author.Rules.{rules}
 use Rattle.wire.proofs.register.Goals as goal
 
 pub returns : goal.returns

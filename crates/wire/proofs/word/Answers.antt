@@ -1,6 +1,5 @@
 -- Each of the eight bytes comes behind those before it (`eight_bytes`).
 use native.Mathlib.Omega.{arith}
-use borrow.Author.Rules.{rules}
 use Rattle.wire.proofs.WordLaws.{eight_bytes}
 use Rattle.wire.proofs.word.Goals as goal
 

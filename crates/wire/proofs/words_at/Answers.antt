@@ -4,7 +4,6 @@ use Prim.Native.Nat.{◌+◌}
 use native.Mathlib.Omega.{arith}
 use Rattle.wire.specs.InnerCheck.{words_in}
 use Rattle.wire.proofs.Turns.{ahead, none}
-use borrow.Author.Rules.{rules}
 use Rattle.wire.proofs.words_at.Goals as goal
 
 pub returns : goal.returns
