@@ -6,8 +6,9 @@ use borrow.Author.Rules.{rules}
 use lib.IntN.{pos}
 use lib.ListN.{length, get_or}
 use mir.Syntax.{w16}
+use mir.Val.{to_z, of_z}
 use mir.ValLaws.{to_z-of_z}
-use Rattle.bits.specs.InnerRaised.{from_zero}
+use Rattle.bits.specs.InnerRaised.{sample_zero, from_zero}
 use Rattle.entries.specs.Section4.{fiducial_of, qrs_type, qrs_fiducial, zone_end}
 use Rattle.beats.specs.Sums.{beat_value_at}
 use Rattle.beats.proofs.Laws.{RightZone, beat_right_lem, zone_here, place_end, place_before, place_in, beat_at}
@@ -69,6 +70,6 @@ returns c =
     let e : a.n + fiducial_of s - qrs_fiducial s a.k ≡ place = omega arith in
     let in-it = place_in (length beat) s a.zones a.k a.n c.requires.0 c.requires.1 h z.1 (omega arith) z.2 in
     let x = get_or beat (place - 1) (pos 0) in
-    let told = c.raised.ensures in
-    let own = told.0 ∙ to_z-of_z w16 x (record { sfits = search rules }) in
-    (rw (in-it, e, beat_at beat place (omega (arith, z))) own, told.1)
+    let told : from_zero sample_zero c.raised.result ≡ to_z w16 (of_z w16 x) = c.raised.ensures.0 in
+    let own = told ∙ to_z-of_z w16 x (record { sfits = search rules }) in
+    (rw (in-it, e, beat_at beat place (omega (arith, z))) own, c.raised.ensures.1)

@@ -1,10 +1,8 @@
-use Prim.Native.Nat.{◌-◌}
 use mathlib.Core.Path.{◌∙◌}
 use native.Mathlib.Omega.{arith}
-use lib.ListN.{length, length-take, length-drop}
+use lib.ListN.{length-take, length-drop}
 use Rattle.index.proofs.Walk.{index_whole, index_ordered}
-use Rattle.merging.proofs.Copied.{Copied, copied_from, copied_next, copied_end}
-use borrow.Author.Rules.{rules}
+use Rattle.merging.proofs.Copied.{copied_from, copied_next, copied_end}
 use Rattle.merging.proofs.copy_all.Goals as goal
 
 pub loop-j-init : goal.loop-j-init
@@ -19,7 +17,7 @@ pub loop-j-smaller : goal.loop-j-smaller
 loop-j-smaller c = let n = c.copy_next-next.ensures.reached in omega (arith, n.size, n.within)
 
 pub loop-j-preserved : goal.loop-j-preserved
-loop-j-preserved c = 
+loop-j-preserved c =
     let e = c.copy_next-next.ensures in
     copied_next _ _ _ c.bytes_fit.ensures c.bytes_fit-2.ensures c.requires.2 _ _ _ _ _ c.loop-j.invariant e.reached e.bytes
 
@@ -27,11 +25,11 @@ pub overflow_add-i : goal.overflow_add-i
 overflow_add-i c = let v = c.loop-j.invariant in omega (arith, v.whole_a, v.whole_b, c.requires.2)
 
 pub put_bytes-requires : goal.put_bytes-requires
-put_bytes-requires c = 
+put_bytes-requires c =
     let v = c.loop-j.invariant in
     rw c.part_of.ensures (simp (length-take, length-drop) (omega (arith, v.whole_a, v.whole_b, v.size, c.requires.2)))
 
 pub returns : goal.returns
-returns c = 
+returns c =
     let end = copied_end _ _ _ c.bytes_fit.ensures c.bytes_fit-2.ensures c.requires.2 _ c.loop-j.i c.loop-j.j c.loop-j.invariant (omega arith) in
     c.put_bytes.ensures ∙ rw c.part_of.ensures end

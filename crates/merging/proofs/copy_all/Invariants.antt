@@ -1,11 +1,7 @@
 -- At every turn the output has all that is merged up to both places; where b has no more, the rest of a ends it.
 use Prim.Native.Nat.{◌-◌}
-use mathlib.Core.Path.{◌∙◌}
-use native.Mathlib.Omega.{arith}
-use lib.ListN.{length, length-take, length-drop}
-use Rattle.index.proofs.Walk.{index_whole, index_ordered}
-use Rattle.merging.proofs.Copied.{Copied, copied_from, copied_next, copied_end}
-use borrow.Author.Rules.{rules}
+use lib.ListN.{length}
+use Rattle.merging.proofs.Copied.{Copied}
 use Rattle.merging.proofs.copy_all.Given as goal
 
 abbrev pub invariant-loop-j : goal.invariant-loop-j

@@ -13,7 +13,6 @@ use Rattle.index.specs.InnerSteps.{seen, Passed}
 use Rattle.index.proofs.Walk.{Shown, shown_at_lem, whole_entry}
 use Rattle.merging.specs.InnerMerging.{Next}
 use Rattle.merging.proofs.Copied.{put_two}
-use borrow.Author.Rules.{rules}
 use Rattle.merging.proofs.copy_next.Goals as goal
 use Rattle.merging.proofs.copy_next.Goals.{After-entry_at-f, After-part_of, After-part_of-2, After-place_for-place, After-put_bytes}
 
@@ -22,14 +21,13 @@ entry_at-f-requires c = let p = c.requires in whole_entry _ _ p.1 p.2
 
 -- the entry that is there
 there : (c : After-entry_at-f) → Shown c.args.b.now c.args.j c.entry_at-f.result
-there c = shown_at_lem _ _ _ c.entry_at-f.ensures (entry-at-requires c c.entry_at-f.lifetimes)
+there c = shown_at_lem _ _ _ c.entry_at-f.ensures (let p = c.requires in whole_entry _ _ p.1 p.2)
 
 -- both places afterwards
 reached : (c : After-place_for-place) → let a = c.args in
-    Next a.a.now a.i a.b.now a.j (record { a = c.place_for-place.result; b = c.entry_at-f.result.next })
+    Shown a.b.now a.j c.entry_at-f.result → Next a.a.now a.i a.b.now a.j (record { a = c.place_for-place.result; b = c.entry_at-f.result.next })
 unfolding before
-reached c =
-    let w = there c in
+reached c w =
     let a = c.args in
     let f = seen a.b.now c.entry_at-f.result in
     let Behind : List ℕ → List ℕ → Type 0 =
@@ -45,41 +43,48 @@ reached c =
 
 -- the first part ends at the place in a, and both have room
 first_part : (c : After-part_of) → let a = c.args in
-    (length c.part_of.result.now ≡ c.place_for-place.result - a.i) × (a.i ≤ c.place_for-place.result)
-first_part c =
-    let k = (reached c).passed in
+    Next a.a.now a.i a.b.now a.j (record { a = c.place_for-place.result; b = c.entry_at-f.result.next })
+    → (length c.part_of.result.now ≡ c.place_for-place.result - a.i) × (a.i ≤ c.place_for-place.result)
+first_part c n =
+    let k = n.passed in
     (ap length c.part_of.ensures ∙ part_length _ _ _ k.within, omega (arith, k.place))
 
 pub put_bytes-requires : goal.put_bytes-requires
 put_bytes-requires c = let p = c.requires in
-    let k = first_part c in
-    omega (arith, k.0, k.1, (reached (goal.at.put_bytes-requires c).After-place_for-place).passed.within, p.2, p.3)
+    let n = reached (goal.at.put_bytes-requires c).After-place_for-place (there (goal.at.put_bytes-requires c).After-entry_at-f) in
+    let k = first_part (goal.at.put_bytes-requires c).After-part_of n in
+    omega (arith, k.0, k.1, n.passed.within, p.2, p.3)
 
 -- the output stays as long as it was
-long : (c : After-put_bytes) → length c.put_bytes.new.part ≡ length c.args.out.now
-long c =
+long : (c : After-put_bytes) → let a = c.args in
+    a.i + a.j + length c.part_of.result.now ≤ length a.out.now → length c.put_bytes.new.part ≡ length c.args.out.now
+long c fits =
     let a = c.args in
-    let fits = put-bytes-requires c c.put_bytes.lifetimes in
     ap length c.put_bytes.ensures
     ∙ rw (length-append, length-append, length-take-le (a.i + a.j) a.out.now (omega (arith, fits)), length-drop) (omega (arith, fits))
 
 -- and the second part is the entry
-second_part : (c : After-part_of-2) → length c.part_of-2.result.now ≡ c.entry_at-f.result.next - c.args.j
-second_part c = ap length c.part_of-2.ensures ∙ part_length _ _ _ (reached c).within
+second_part : (c : After-part_of-2) → let a = c.args in
+    Next a.a.now a.i a.b.now a.j (record { a = c.place_for-place.result; b = c.entry_at-f.result.next })
+    → length c.part_of-2.result.now ≡ c.entry_at-f.result.next - c.args.j
+second_part c n = ap length c.part_of-2.ensures ∙ part_length _ _ _ n.within
 
 pub put_bytes-requires-2 : goal.put_bytes-requires-2
 put_bytes-requires-2 c = let p = c.requires in
-    let n = reached (goal.at.put_bytes-requires-2 c).After-place_for-place in
-    omega (arith, second_part c, n.size, n.within, n.passed.within, p.3, long (goal.at.put_bytes-requires-2 c).After-put_bytes)
+    let n = reached (goal.at.put_bytes-requires-2 c).After-place_for-place (there (goal.at.put_bytes-requires-2 c).After-entry_at-f) in
+    let k = first_part (goal.at.put_bytes-requires-2 c).After-part_of n in
+    let fits : c.args.i + c.args.j + length c.part_of.result.now ≤ length c.args.out.now = omega (arith, k.0, k.1, n.passed.within, p.2, p.3) in
+    omega (arith, second_part (goal.at.put_bytes-requires-2 c).After-part_of-2 n, n.size, n.within, n.passed.within, p.3, long (goal.at.put_bytes-requires-2 c).After-put_bytes fits)
 
 pub returns : goal.returns
 returns c = let a = c.args in
-    let n = reached (goal.at.returns c).After-place_for-place in
+    let n = reached (goal.at.returns c).After-place_for-place (there (goal.at.returns c).After-entry_at-f) in
     let p = c.part_of.result.now in
     let q = c.part_of-2.result.now in
-    let k = first_part (goal.at.returns c).After-part_of in
+    let k = first_part (goal.at.returns c).After-part_of n in
     let first : c.place_for-place.result + a.j ≡ a.i + a.j + length p = omega (arith, k.0, k.1) in
     let end : c.place_for-place.result + c.entry_at-f.result.next ≡ a.i + a.j + length p + length q =
-    omega (arith, k.0, k.1, second_part (goal.at.returns c).After-part_of-2, n.size) in
-    let fits = put-bytes-requires c c.put_bytes.lifetimes in
-    record { reached = n; bytes = c.put_bytes-2.ensures ∙ rw (first, c.put_bytes.ensures, end, ← c.part_of.ensures, ← c.part_of-2.ensures) (put_two a.out.now p q (a.i + a.j) fits); }
+    omega (arith, k.0, k.1, second_part (goal.at.returns c).After-part_of-2 n, n.size) in
+    let u = c.requires in
+    let fits : a.i + a.j + length p ≤ length a.out.now = omega (arith, k.0, k.1, n.passed.within, u.2, u.3) in
+    record { reached = n; bytes = c.put_bytes-2.ensures ∙ rw (first, c.put_bytes.ensures, end, ← c.part_of.ensures, ← c.part_of-2.ensures) (put_two a.out.now p q (a.i + a.j) fits) }

@@ -9,7 +9,6 @@ use Rattle.wire.specs.RuleWords.{unless}
 use Rattle.wire.proofs.Tests.{kept, broken}
 use Rattle.index.specs.Index.{is_index}
 use Rattle.merging.specs.Merging.{room_for_both, merge_refusal}
-use borrow.Author.Rules.{rules}
 use Rattle.merging.proofs.merge_refusal.Goals as goal
 use Rattle.merging.proofs.merge_refusal.Goals.{Else-not-is_index, Else-not-is_index-2}
 
@@ -32,18 +31,18 @@ second c = kept c.is_index-2.ensures c.if-not-is_index-2.false
 
 -- where both are, the room decides
 both : (c : Else-not-is_index-2) → let a = c.args in
-    unless (room_for_both a.a.now a.b.now a.room) 11 0 ≡ merge_refusal a.a.now a.b.now a.room
+    is_index a.a.now ≡ true → is_index a.b.now ≡ true → unless (room_for_both a.a.now a.b.now a.room) 11 0 ≡ merge_refusal a.a.now a.b.now a.room
 unfolding merge_refusal
-both c = rw (first c, second c)
+both c one two = rw (one, two)
 
 pub returns-then-room-a : goal.returns-then-room-a
 returns-then-room-a c = let a = c.args in
-    simp (lt-leb (length a.a.now + length a.b.now) a.room (omega arith)) at (both (goal.at.returns-then-room-a c).Else-not-is_index-2)
+    simp (lt-leb (length a.a.now + length a.b.now) a.room (omega arith)) at (both (goal.at.returns-then-room-a c).Else-not-is_index-2 (first (goal.at.returns-then-room-a c).Else-not-is_index) (second (goal.at.returns-then-room-a c).Else-not-is_index-2))
 
 pub returns-then-room-a-2 : goal.returns-then-room-a-2
 returns-then-room-a-2 c = let a = c.args in
-    simp (lt-leb (length a.a.now + length a.b.now) a.room (omega arith)) at (both (goal.at.returns-then-room-a-2 c).Else-not-is_index-2)
+    simp (lt-leb (length a.a.now + length a.b.now) a.room (omega arith)) at (both (goal.at.returns-then-room-a-2 c).Else-not-is_index-2 (first (goal.at.returns-then-room-a-2 c).Else-not-is_index) (second (goal.at.returns-then-room-a-2 c).Else-not-is_index-2))
 
 pub returns : goal.returns
 returns c = let a = c.args in
-    simp (le-leb (length a.a.now + length a.b.now) a.room (omega arith)) at (both (goal.at.returns c).Else-not-is_index-2)
+    simp (le-leb (length a.a.now + length a.b.now) a.room (omega arith)) at (both (goal.at.returns c).Else-not-is_index-2 (first (goal.at.returns c).Else-not-is_index) (second (goal.at.returns c).Else-not-is_index-2))
