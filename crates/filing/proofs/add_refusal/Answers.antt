@@ -85,20 +85,24 @@ entry_size-requires c = opens_here (goal.at.entry_size-requires c).Else-refusal-
 
 pub returns-then-lent-used : goal.returns-then-lent-used
 unfolding room_right
-returns-then-lent-used c = let a = c.args in
-    let fits = used_fits (goal.at.returns-then-lent-used c).Else-not-index_right in
+returns-then-lent-used c =
+    let places = goal.at.returns-then-lent-used c in
+    let a = c.args in
+    let fits = used_fits places.Else-not-index_right in
     let short = lt-leb (a.used + entry_size (entry_of a.rec.now)) (length a.lent.now) (omega (arith, c.entry_size.ensures, c.if-lent-used.true)) in
-    let two = left2 (goal.at.returns-then-lent-used c).Else-refusal-ne0 in
+    let two = left2 places.Else-refusal-ne0 in
     let three = left3 a.lent.now a.used a.rec.now (kept c.section3_kept.ensures c.if-not-section3_kept.false) two in
     let four = left4 a.lent.now a.used a.rec.now (kept c.date_kept.ensures c.if-not-date_kept.false) three in
     simp short at four
 
 pub returns : goal.returns
 unfolding room_right
-returns c = let a = c.args in
-    let fits = used_fits (goal.at.returns c).Else-not-index_right in
+returns c =
+    let places = goal.at.returns c in
+    let a = c.args in
+    let fits = used_fits places.Else-not-index_right in
     let enough = le-leb (a.used + entry_size (entry_of a.rec.now)) (length a.lent.now) (omega (arith, c.entry_size.ensures, c.if-lent-used.false)) in
-    let two = left2 (goal.at.returns c).Else-refusal-ne0 in
+    let two = left2 places.Else-refusal-ne0 in
     let three = left3 a.lent.now a.used a.rec.now (kept c.section3_kept.ensures c.if-not-section3_kept.false) two in
     let four = left4 a.lent.now a.used a.rec.now (kept c.date_kept.ensures c.if-not-date_kept.false) three in
     simp enough at four

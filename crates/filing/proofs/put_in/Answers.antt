@@ -59,10 +59,14 @@ place_is c in_use =
     ∙ rw (in_use, c.identifier_of-id.ensures, c.date_of-date.ensures)
 
 pub overflow_add-end : goal.overflow_add-end
-overflow_add-end c = omega (arith, place_fits c, room (goal.at.overflow_add-end c).After-identifier_of-id (keeps (goal.at.overflow_add-end c).Start))
+overflow_add-end c =
+    let places = goal.at.overflow_add-end c in
+    omega (arith, place_fits c, room places.After-identifier_of-id (keeps places.Start))
 
 pub move_on-requires : goal.move_on-requires
-move_on-requires c = (place_fits (goal.at.move_on-requires c).After-place_for-at, room (goal.at.move_on-requires c).After-identifier_of-id (keeps (goal.at.move_on-requires c).Start))
+move_on-requires c =
+    let places = goal.at.move_on-requires c in
+    (place_fits places.After-place_for-at, room places.After-identifier_of-id (keeps places.Start))
 
 -- the lent bytes, moved on, are as many as before
 long : (c : After-move_on) → c.place_for-at.result ≤ c.args.used
@@ -73,13 +77,19 @@ long c fits enough =
     ∙ moved_length a.lent.now c.place_for-at.result a.used (5 + length c.identifier_of-id.result.now) fits enough
 
 pub slice_bounds-put_entry-end : goal.slice_bounds-put_entry-end
-slice_bounds-put_entry-end c = let at = c.place_for-at.result in
+slice_bounds-put_entry-end c =
+    let places = goal.at.slice_bounds-put_entry-end c in
+    let fits = place_fits places.After-place_for-at in
+    let enough = room places.After-identifier_of-id (keeps places.Start) in
+    let at = c.place_for-at.result in
     let n = length c.identifier_of-id.result.now in
-    let h : at + (5 + n) ≤ length c.move_on.new.lent = omega (arith, long (goal.at.slice_bounds-put_entry-end c).After-move_on (place_fits (goal.at.slice_bounds-put_entry-end c).After-place_for-at) (room (goal.at.slice_bounds-put_entry-end c).After-identifier_of-id (keeps (goal.at.slice_bounds-put_entry-end c).Start)), place_fits (goal.at.slice_bounds-put_entry-end c).After-place_for-at, room (goal.at.slice_bounds-put_entry-end c).After-identifier_of-id (keeps (goal.at.slice_bounds-put_entry-end c).Start)) in
+    let h : at + (5 + n) ≤ length c.move_on.new.lent = omega (arith, long places.After-move_on fits enough, fits, enough) in
     h
 
 pub put_entry-requires : goal.put_entry-requires
-put_entry-requires c = let k = keeps (goal.at.put_entry-requires c).Start in
+put_entry-requires c =
+    let places = goal.at.put_entry-requires c in
+    let k = keeps places.Start in
     let r = c.args.rec.now in
     let at = c.place_for-at.result in
     let n = length c.identifier_of-id.result.now in
@@ -89,10 +99,20 @@ put_entry-requires c = let k = keeps (goal.at.put_entry-requires c).Start in
     let most = (identified r k.opened).most in
     let d = c.date_of-date.result in
     let date : (d.month < 16) × (d.day < 32) = rw c.date_of-date.ensures (date_room r k.date) in
-    (omega (arith, cut, length-drop at out, long (goal.at.put_entry-requires c).After-move_on (place_fits (goal.at.put_entry-requires c).After-place_for-at) (room (goal.at.put_entry-requires c).After-identifier_of-id (keeps (goal.at.put_entry-requires c).Start)), place_fits (goal.at.put_entry-requires c).After-place_for-at, room (goal.at.put_entry-requires c).After-identifier_of-id (keeps (goal.at.put_entry-requires c).Start)), omega (arith, few, most), date.0, date.1, c.leads_of.ensures.1)
+    let fits = place_fits places.After-place_for-at in
+    let enough = room places.After-identifier_of-id (keeps places.Start) in
+    let stays = long places.After-move_on fits enough in (
+      omega (arith, cut, length-drop at out, stays, fits, enough),
+      omega (arith, few, most),
+      date.0,
+      date.1,
+      c.leads_of.ensures.1,
+    )
 
 pub overflow_add-result : goal.overflow_add-result
-overflow_add-result c = omega (arith, room (goal.at.overflow_add-result c).After-identifier_of-id (keeps (goal.at.overflow_add-result c).Start))
+overflow_add-result c =
+    let places = goal.at.overflow_add-result c in
+    omega (arith, room places.After-identifier_of-id (keeps places.Start))
 
 -- the entry that is written is the record's
 written : (c : After-put_entry) → c.put_entry.new.out ≡ entry_bytes (entry_of c.args.rec.now)
@@ -103,8 +123,12 @@ written c =
 
 pub returns : goal.returns
 unfolding put_in
-returns c = let a = c.args in
+returns c =
+    let places = goal.at.returns c in
+    let a = c.args in
     let n = 5 + length c.identifier_of-id.result.now in
     let at = c.place_for-at.result in
-    let put = put_between a.lent.now c.put_entry.new.out at a.used n (place_fits (goal.at.returns c).After-place_for-at) (room (goal.at.returns c).After-identifier_of-id (keeps (goal.at.returns c).Start)) in
-    (ap (λ (k : ℕ). a.used + k) (size (goal.at.returns c).After-identifier_of-id), rw (c.move_on.ensures, ← size (goal.at.returns c).After-identifier_of-id, ← place_is (goal.at.returns c).After-place_for-at (used (goal.at.returns c).After-part_of), ← written (goal.at.returns c).After-put_entry) put)
+    let put = put_between a.lent.now c.put_entry.new.out at a.used n (place_fits places.After-place_for-at) (room places.After-identifier_of-id (keeps places.Start)) in
+    let own = size places.After-identifier_of-id in
+    let place = place_is places.After-place_for-at (used places.After-part_of) in
+    (ap (λ (k : ℕ). a.used + k) own, rw (c.move_on.ensures, ← own, ← place, ← written places.After-put_entry) put)

@@ -23,13 +23,17 @@ asked : (c : After-same_identifier) → let a = c.args in
 asked c = rw (← c.part_of-own.ensures) c.same_identifier.ensures
 
 pub returns-then-not-same_identifier : goal.returns-then-not-same_identifier
-returns-then-not-same_identifier c = going_stop _ _ _ _ _ c.loop-at.invariant (there (goal.at.returns-then-not-same_identifier c).After-entry_at-e) (broken (asked (goal.at.returns-then-not-same_identifier c).After-same_identifier) c.if-not-same_identifier.true)
+returns-then-not-same_identifier c =
+    let places = goal.at.returns-then-not-same_identifier c in
+    going_stop _ _ _ _ _ c.loop-at.invariant (there places.After-entry_at-e) (broken (asked places.After-same_identifier) c.if-not-same_identifier.true)
 
 pub loop-at-smaller : goal.loop-at-smaller
 loop-at-smaller c = let w = there (goal.at.loop-at-smaller c).After-entry_at-e in omega (arith, w.size, w.within)
 
 pub loop-at-preserved : goal.loop-at-preserved
-loop-at-preserved c = going_on _ _ _ _ _ c.loop-at.invariant (there (goal.at.loop-at-preserved c).After-entry_at-e) (kept (asked (goal.at.loop-at-preserved c).After-same_identifier) c.if-not-same_identifier.false)
+loop-at-preserved c =
+    let places = goal.at.loop-at-preserved c in
+    going_on _ _ _ _ _ c.loop-at.invariant (there places.After-entry_at-e) (kept (asked places.After-same_identifier) c.if-not-same_identifier.false)
 
 pub returns : goal.returns
 returns c = let l = c.loop-at in going_end _ _ _ _ l.invariant (none_past c.args.s.now l.at (omega arith))

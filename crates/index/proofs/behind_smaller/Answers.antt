@@ -26,13 +26,17 @@ asked c =
     rw (← c.part_of.ensures) (c.is_before.ensures ∙ decided_alone _ a.id.now (date_in c.date_of-day.result))
 
 pub returns-then-not-is_before : goal.returns-then-not-is_before
-returns-then-not-is_before c = going_stop _ _ _ _ _ c.loop-at.invariant (there (goal.at.returns-then-not-is_before c).After-entry_at-e) (broken (asked (goal.at.returns-then-not-is_before c).After-is_before) c.if-not-is_before.true)
+returns-then-not-is_before c =
+    let places = goal.at.returns-then-not-is_before c in
+    going_stop _ _ _ _ _ c.loop-at.invariant (there places.After-entry_at-e) (broken (asked places.After-is_before) c.if-not-is_before.true)
 
 pub loop-at-smaller : goal.loop-at-smaller
 loop-at-smaller c = let w = there (goal.at.loop-at-smaller c).After-entry_at-e in omega (arith, w.size, w.within)
 
 pub loop-at-preserved : goal.loop-at-preserved
-loop-at-preserved c = going_on _ _ _ _ _ c.loop-at.invariant (there (goal.at.loop-at-preserved c).After-entry_at-e) (kept (asked (goal.at.loop-at-preserved c).After-is_before) c.if-not-is_before.false)
+loop-at-preserved c =
+    let places = goal.at.loop-at-preserved c in
+    going_on _ _ _ _ _ c.loop-at.invariant (there places.After-entry_at-e) (kept (asked places.After-is_before) c.if-not-is_before.false)
 
 pub returns : goal.returns
 returns c = let l = c.loop-at in going_end _ _ _ _ l.invariant (none_past c.args.s.now l.at (omega arith))

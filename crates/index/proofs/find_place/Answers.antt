@@ -54,5 +54,7 @@ returns-then-end-start c = let p = (goal.at.returns-then-end-start c).After-part
     sym (walked (goal.at.returns-then-end-start c).After-behind_same-end (right p) (used p) ∙ part_none _ _ none)
 
 pub returns : goal.returns
-returns c = let p = (goal.at.returns c).After-part_of-s in
-    sym (walked (goal.at.returns c).After-behind_same-end (right p) (used p) ∙ part_some _ _ (λ e. absurd (omega (arith, c.if-end-start.false, e))))
+returns c =
+    let places = goal.at.returns c in
+    let p = places.After-part_of-s in
+    sym (walked places.After-behind_same-end (right p) (used p) ∙ part_some _ _ (λ e. absurd (omega (arith, c.if-end-start.false, e))))

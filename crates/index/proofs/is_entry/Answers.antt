@@ -55,15 +55,18 @@ returns-then-s-start c = let a = c.args in
     sym (entry_cut (drop a.at a.s.now) (omega (arith, size (goal.at.returns-then-s-start c).After-after-size, length-drop a.at a.s.now)))
 
 pub returns-then-not-no_nul : goal.returns-then-not-no_nul
-returns-then-not-no_nul c = sym (rw (c.if-not-no_nul.true, and-false) at (decided (goal.at.returns-then-not-no_nul c).After-no_nul (size (goal.at.returns-then-not-no_nul c).After-after-size) (nul_free (goal.at.returns-then-not-no_nul c).After-no_nul)))
+returns-then-not-no_nul c =
+    let places = goal.at.returns-then-not-no_nul c in
+    sym (rw (c.if-not-no_nul.true, and-false) at (decided places.After-no_nul (size places.After-after-size) (nul_free places.After-no_nul)))
 
 pub returns : goal.returns
 returns c =
+    let places = goal.at.returns c in
     let free = c.if-not-no_nul.false in
     rw (
-      number (goal.at.returns c).After-head_at-w 22 4 _ (omega arith) c.after-month.ensures,
-      number (goal.at.returns c).After-head_at-w 26 5 _ (omega arith) c.after-day.ensures,
-      number (goal.at.returns c).After-head_at-w 31 8 _ (omega arith) c.after-leads.ensures,
-      number (goal.at.returns c).After-head_at-w 39 1 _ (omega arith) c.after.ensures,
+      number places.After-head_at-w 22 4 _ (omega arith) c.after-month.ensures,
+      number places.After-head_at-w 26 5 _ (omega arith) c.after-day.ensures,
+      number places.After-head_at-w 31 8 _ (omega arith) c.after-leads.ensures,
+      number places.After-head_at-w 39 1 _ (omega arith) c.after.ensures,
     ) at c.head_right.ensures
-    ∙ sym (rw (free, and-true) at (decided (goal.at.returns c).After-no_nul (size (goal.at.returns c).After-after-size) (nul_free (goal.at.returns c).After-no_nul)))
+    ∙ sym (rw (free, and-true) at (decided places.After-no_nul (size places.After-after-size) (nul_free places.After-no_nul)))

@@ -70,21 +70,25 @@ second_part : (c : After-part_of-2) → let a = c.args in
 second_part c n = ap length c.part_of-2.ensures ∙ part_length _ _ _ n.within
 
 pub put_bytes-requires-2 : goal.put_bytes-requires-2
-put_bytes-requires-2 c = let p = c.requires in
-    let n = reached (goal.at.put_bytes-requires-2 c).After-place_for-place (there (goal.at.put_bytes-requires-2 c).After-entry_at-f) in
-    let k = first_part (goal.at.put_bytes-requires-2 c).After-part_of n in
+put_bytes-requires-2 c =
+    let places = goal.at.put_bytes-requires-2 c in
+    let p = c.requires in
+    let n = reached places.After-place_for-place (there places.After-entry_at-f) in
+    let k = first_part places.After-part_of n in
     let fits : c.args.i + c.args.j + length c.part_of.result.now ≤ length c.args.out.now = omega (arith, k.0, k.1, n.passed.within, p.2, p.3) in
-    omega (arith, second_part (goal.at.put_bytes-requires-2 c).After-part_of-2 n, n.size, n.within, n.passed.within, p.3, long (goal.at.put_bytes-requires-2 c).After-put_bytes fits)
+    omega (arith, second_part places.After-part_of-2 n, n.size, n.within, n.passed.within, p.3, long places.After-put_bytes fits)
 
 pub returns : goal.returns
-returns c = let a = c.args in
-    let n = reached (goal.at.returns c).After-place_for-place (there (goal.at.returns c).After-entry_at-f) in
+returns c =
+    let places = goal.at.returns c in
+    let a = c.args in
+    let n = reached places.After-place_for-place (there places.After-entry_at-f) in
     let p = c.part_of.result.now in
     let q = c.part_of-2.result.now in
-    let k = first_part (goal.at.returns c).After-part_of n in
+    let k = first_part places.After-part_of n in
     let first : c.place_for-place.result + a.j ≡ a.i + a.j + length p = omega (arith, k.0, k.1) in
     let end : c.place_for-place.result + c.entry_at-f.result.next ≡ a.i + a.j + length p + length q =
-    omega (arith, k.0, k.1, second_part (goal.at.returns c).After-part_of-2 n, n.size) in
+    omega (arith, k.0, k.1, second_part places.After-part_of-2 n, n.size) in
     let u = c.requires in
     let fits : a.i + a.j + length p ≤ length a.out.now = omega (arith, k.0, k.1, n.passed.within, u.2, u.3) in
     record { reached = n; bytes = c.put_bytes-2.ensures ∙ rw (first, c.put_bytes.ensures, end, ← c.part_of.ensures, ← c.part_of-2.ensures) (put_two a.out.now p q (a.i + a.j) fits) }

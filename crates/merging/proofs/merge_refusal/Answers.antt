@@ -36,13 +36,22 @@ unfolding merge_refusal
 both c one two = rw (one, two)
 
 pub returns-then-room-a : goal.returns-then-room-a
-returns-then-room-a c = let a = c.args in
-    simp (lt-leb (length a.a.now + length a.b.now) a.room (omega arith)) at (both (goal.at.returns-then-room-a c).Else-not-is_index-2 (first (goal.at.returns-then-room-a c).Else-not-is_index) (second (goal.at.returns-then-room-a c).Else-not-is_index-2))
+returns-then-room-a c =
+    let places = goal.at.returns-then-room-a c in
+    let a = c.args in
+    let decides = both places.Else-not-is_index-2 (first places.Else-not-is_index) (second places.Else-not-is_index-2) in
+    simp (lt-leb (length a.a.now + length a.b.now) a.room (omega arith)) at decides
 
 pub returns-then-room-a-2 : goal.returns-then-room-a-2
-returns-then-room-a-2 c = let a = c.args in
-    simp (lt-leb (length a.a.now + length a.b.now) a.room (omega arith)) at (both (goal.at.returns-then-room-a-2 c).Else-not-is_index-2 (first (goal.at.returns-then-room-a-2 c).Else-not-is_index) (second (goal.at.returns-then-room-a-2 c).Else-not-is_index-2))
+returns-then-room-a-2 c =
+    let places = goal.at.returns-then-room-a-2 c in
+    let a = c.args in
+    let decides = both places.Else-not-is_index-2 (first places.Else-not-is_index) (second places.Else-not-is_index-2) in
+    simp (lt-leb (length a.a.now + length a.b.now) a.room (omega arith)) at decides
 
 pub returns : goal.returns
-returns c = let a = c.args in
-    simp (le-leb (length a.a.now + length a.b.now) a.room (omega arith)) at (both (goal.at.returns c).Else-not-is_index-2 (first (goal.at.returns c).Else-not-is_index) (second (goal.at.returns c).Else-not-is_index-2))
+returns c =
+    let places = goal.at.returns c in
+    let a = c.args in
+    let decides = both places.Else-not-is_index-2 (first places.Else-not-is_index) (second places.Else-not-is_index-2) in
+    simp (le-leb (length a.a.now + length a.b.now) a.room (omega arith)) at decides
