@@ -1,6 +1,5 @@
 -- The C boundary answers in numbers where the library's call answers by cases (01, The forms we expect, on answers that are enums).
 use Rattle.std.specs.Prelude.{ℕ, Bool, true, false}
-use Rattle.header.specs.declared.Field.{Field}
 use Rattle.header.specs.declared.Step.{Step}
 use Rattle.header.specs.declared.Step.TheVariants.{Found, End}
 use Rattle.header.specs.Fields.{size_of}

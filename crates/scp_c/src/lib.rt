@@ -141,7 +141,10 @@ pub extern "C" fn scp_write_record(
         firsts.now counts.now ids.now samples.now)
         work.old out.old result work.new out.new }
 {
-    scp::scp_write_record(section1, section2, version, flags, step, interval, order, firsts, counts, ids, samples, work, out)
+    scp::scp_write_record(
+        section1, section2, version, flags, step, interval, order, firsts, counts, ids, samples,
+        work, out,
+    )
 }
 
 // Adding a record to the auditor's index, of which `used` bytes are in use.

@@ -1,15 +1,10 @@
 -- The samples seen so far fit: each does where it is read. Assumes nothing.
 use Prim.Native.Nat.{◌≤◌, ◌-◌}
-use mathlib.Core.Path.{◌≡◌, refl}
+use mathlib.Core.Path.{◌≡◌}
 use mathlib.Core.Bool.{true}
-use native.Mathlib.Numerals.{add-one}
-use native.Mathlib.Omega.{arith}
-use borrow.Author.Rules.{rules}
 use lib.ListN.{length, take}
-use lib.Seq.{take_all}
 use Rattle.wire.specs.RuleWords.{every}
 use Rattle.samples.specs.Trace.{fits16}
-use Rattle.answers.proofs.Lent.{fit_more}
 use Rattle.answers.proofs.samples_fit.Given as goal
 
 abbrev pub invariant-loop-i : goal.invariant-loop-i

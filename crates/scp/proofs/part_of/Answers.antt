@@ -1,7 +1,6 @@
 -- Each case of a place has its numbers.
 use mathlib.Core.Path.{sym, ap}
 use Rattle.scp.specs.Boundary.{part_at}
-use borrow.Author.Rules.{rules}
 use Rattle.scp.proofs.part_of.Goals as goal
 
 pub returns-in-At : goal.returns-in-At

@@ -1,7 +1,6 @@
 -- The answer, as a number.
 use mathlib.Core.Path.{sym, ap, ◌∙◌}
 use mathlib.Core.Bool.{Bool, not}
-use borrow.Author.Rules.{rules}
 use Rattle.scp.specs.Boundary.{one_if}
 use Rattle.scp.proofs.scp_breaks.Goals as goal
 

@@ -1,7 +1,6 @@
 -- The place that was found, as numbers.
-use mathlib.Core.Path.{◌≡◌, ap, ◌∙◌}
+use mathlib.Core.Path.{ap, ◌∙◌}
 use Rattle.scp.specs.Boundary.{part_at}
-use borrow.Author.Rules.{rules}
 use Rattle.scp.proofs.scp_index_find.Goals as goal
 
 pub returns : goal.returns

@@ -1,7 +1,6 @@
 -- The answer, as a number.
 use mathlib.Core.Path.{sym, ap, ◌∙◌}
 use Rattle.scp.specs.Boundary.{one_if}
-use borrow.Author.Rules.{rules}
 use Rattle.scp.proofs.scp_same_identifier.Goals as goal
 
 pub returns-then-same_identifier : goal.returns-then-same_identifier

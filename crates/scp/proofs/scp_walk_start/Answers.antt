@@ -1,7 +1,6 @@
 -- The walk's place is passed on as numbers.
 use mathlib.Core.Path.{ap, ◌∙◌}
 use Rattle.scp.specs.Boundary.{part_at}
-use borrow.Author.Rules.{rules}
 use Rattle.scp.proofs.scp_walk_start.Goals as goal
 
 pub returns : goal.returns

@@ -1,8 +1,7 @@
 -- Each case of a step has its numbers; a field that a step shows is whole, so that its length is no less than nothing.
-use mathlib.Core.Path.{sym, ap, ◌∙◌}
+use mathlib.Core.Path.{sym, ap}
 use Rattle.header.proofs.Laws.{step_found}
 use Rattle.scp.specs.Boundary.{shown}
-use borrow.Author.Rules.{rules}
 use Rattle.scp.proofs.scp_walk_step.Goals as goal
 
 pub overflow_sub-result : goal.overflow_sub-result
