@@ -1,7 +1,7 @@
 #!/usr/bin/env python3
 """Brings the names of the definitions and lemmas of the crates to snake case: bitsIn and bits-in become bits_in.
 
-usage: tools/snake-names [--table]      at the top of the repository; --table prints what it would rename, and writes nothing
+usage: tools/snake_names.py [--table]      at the top of the repository; --table prints what it would rename, and writes nothing
 
 Types, modules and facts, which begin with a capital, keep their names; so do names of Rust items, which are in snake case, and the
 names that the library has. Names are turned in the crates' files, in the edits, and in the pages and comments where they stand in

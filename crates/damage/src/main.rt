@@ -4,10 +4,14 @@
 // damaged one, and into too little room answers.
 #![tactic(auto)]
 
+ghost use Rattle.std.specs.Prelude.{◌≤◌, length};
+
 use fields::Place;
 use filing::Indexed;
 use leads::Lead;
-use std::{env, fs, io};
+use std::fs::File;
+use std::io::Read;
+use std::{env, io};
 
 // The most samples that a lead of these records has; more is refused with 11.
 fn room() -> [i16; 40] {
@@ -145,15 +149,46 @@ fn show_entries(rt: &HostRuntime, index: &[u8], used: usize, identifier: &str) -
     put_place(rt, index::find_place(index, used, identifier.as_bytes()))
 }
 
-fn show_file(rt: &HostRuntime, path: &str, index: &mut [u8], used: usize) -> io::Result<usize> {
-    println!(rt; "{path}")?;
-    let bytes = fs::read(rt, path)?;
-    let rec = bytes.as_slice();
+// As many bytes of a file are read.
+const MOST_READ: usize = 4096;
+
+// The first bytes of a file, up to the end or to a read that fails; answered is how many.
+fn read_into(file: &mut File, buffer: &mut [u8]) -> usize
+    ensures { result ≤ length buffer.new }
+{
+    let mut n: usize = 0;
+    for _ in 0..buffer.len() {
+        match file.read(&mut buffer[n..]) {
+            Ok(0) => break,
+            Ok(more) => n += more,
+            Err(_) => break,
+        }
+    }
+    n
+}
+
+fn show_record(rt: &HostRuntime, rec: &[u8], index: &mut [u8], used: usize) -> io::Result<usize> {
     show_opening(rt, rec)?;
     show_identifier(rt, rec)?;
     show_rows(rt, rec)?;
     show_leads(rt, rec)?;
     show_adding(rt, rec, index, used)
+}
+
+// A file that cannot be opened is named on standard error, and the next one is shown.
+fn show_file(rt: &HostRuntime, path: &str, index: &mut [u8], used: usize) -> io::Result<usize> {
+    println!(rt; "{path}")?;
+    match File::open(rt, path) {
+        Ok(mut file) => {
+            let mut buffer = [0u8; MOST_READ];
+            let n = read_into(&mut file, &mut buffer);
+            show_record(rt, &buffer[..n], index, used)
+        }
+        Err(error) => {
+            eprintln!(rt; "{path}: {error}")?;
+            Ok(used)
+        }
+    }
 }
 
 fn show_arguments(rt: &HostRuntime, index: &mut [u8]) -> io::Result<usize> {
