@@ -21,7 +21,7 @@ none c = sym c.merge_refusal-refusal.ensures ∙ c.if-refusal-ne0.false
 
 pub copy_all-requires : goal.copy_all-requires
 copy_all-requires c = let k = all_kept_lem _ _ _ (none (goal.at.copy_all-requires c).Else-refusal-ne0) in
-    (k.0, k.1, omega (arith, k.2))
+    (search (k.0, k.1), search (k.0, k.1), omega (arith, k.2))
 
 pub returns : goal.returns
 unfolding merge_answer merged_into
