@@ -29,13 +29,11 @@ use Rattle.compiled.specs.InnerForm.{lowest, form_of, Compiled, CompiledOrNone}
 use Rattle.compiled.proofs.Laws.{FineForm, form_fine, held_right, held_count}
 use Rattle.reading.specs.Reading.{matching, value_of, read_coded, read_plain, read_next}
 use Rattle.reading.specs.Compared.{compared_in, compared_coded, compared_next}
-use Rattle.reading.specs.InnerCursor.{Seen, found_in, formed, Placed, Onward, OnwardOf}
+use Rattle.reading.specs.InnerCursor.{Seen, found_in, formed, Placed, Onward}
 use Rattle.reading.specs.declared.Found.{Found}
 use Rattle.reading.specs.declared.Found.TheVariants.{At}
 use Rattle.reading.specs.declared.Read.{Read}
 use Rattle.reading.specs.declared.Read.TheVariants.{Value, Stuck}
-use Rattle.reading.specs.declared.Burst.{Burst}
-use Rattle.reading.specs.declared.Burst.TheVariants.{Ended, More}
 use Rattle.reading.proofs.Laws.{matched, table_at, read_switch, read_value, compared_switch, compared_value, to_value, to_switch}
 
 -- ---- two's complement, 131,072 added
@@ -233,8 +231,3 @@ next_plain tables tab (inr empty) e table bs = (rw empty.0, rw empty.0)
 pub onward_from : (a b n : ℕ) → a ≤ b → (r : Read) → Onward b n r → Onward a n r
 onward_from a b n h (Value x c) o = omega arith
 onward_from a b n h Stuck o = tt
-
--- so is a burst
-pub onward_of_from : (a b n : ℕ) → a ≤ b → (r : Burst) → OnwardOf b n r → OnwardOf a n r
-onward_of_from a b n h (Ended r) o = onward_from a b n h r o
-onward_of_from a b n h (More c) o = omega arith
