@@ -92,7 +92,7 @@ module _ (v w : ℕ) (ss : List Section) (f : Fit ss) where
       let n = pointer_count ss in
       let q = F.section0_sound v w ss f in
       let id = stands_number (F.section0_there v w ss) 2 2 (omega (arith, q.least)) ∙ q.own in
-      let ids = all_all (id_right r) 0 n (omega arith) (λ k a b. id_kept k b) in
+      let ids = all_all (id_right r) 0 n (λ k a b. id_kept k b) in
       let least = le-leb fewest_pointers n f.least in
       let whole = eq-eqb (section0_size ss) (16 + 10 * n) refl in
       let inside = le-leb (6 + section0_size ss) (length r) (omega (arith, F.length_record v w ss)) in
@@ -134,7 +134,7 @@ module _ (v w : ℕ) (ss : List Section) (f : Fit ss) where
       go (inr q) =
           let behind = place_least ss (F.base v w ss) j in
           let apart = from_one (λ k. sections_apart r (suc j) k ≡ true) j (λ i a. apart_at i j a h (omega (arith, q.least))) in
-          let all = all_all (sections_apart r (suc j)) 1 (suc j) (omega arith) (λ k a b. apart k a (omega arith)) in
+          let all = all_all (sections_apart r (suc j)) 1 (suc j) (λ k a b. apart k a (omega arith)) in
           pointed_placed (F.pointed_at v w ss f j h) q (omega (arith, F.section0_length_lem v w ss f, behind)) all
 
   check_at : (j : ℕ) → j < length ss → section_check_right r (suc j) ≡ true
@@ -150,7 +150,7 @@ module _ (v w : ℕ) (ss : List Section) (f : Fit ss) where
       let n = length ss in
       let some = ne_eqb (length (nth ss 0).bytes) 0 (λ e. absurd (omega (arith, f.first))) in
       let first = present_given 0 (omega (arith, f.least)) ∙ ap not some in
-      let all = all_all (placed_right r) 1 (1 + n) (omega arith) (from_one (λ k. placed_right r k ≡ true) n placed_at) in
+      let all = all_all (placed_right r) 1 (1 + n) (from_one (λ k. placed_right r k ≡ true) n placed_at) in
       rw (first, F.count_is v w ss f, all)
 
   section0_check : holds_check r 6 (6 + section0_size ss) ≡ true
@@ -162,7 +162,7 @@ module _ (v w : ℕ) (ss : List Section) (f : Fit ss) where
   unfolding checks_right
   checks_kept =
       let n = length ss in
-      let all = all_all (section_check_right r) 1 (1 + n) (omega arith) (from_one (λ k. section_check_right r k ≡ true) n check_at) in
+      let all = all_all (section_check_right r) 1 (1 + n) (from_one (λ k. section_check_right r k ≡ true) n check_at) in
       rw (F.section0_length_lem v w ss f, section0_check, F.count_is v w ss f, all)
 
   -- the record opens, where Section 1's data keep their rule

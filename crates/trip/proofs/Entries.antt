@@ -111,7 +111,7 @@ module _ {s : List ℕ} {flags : ℕ} {firsts counts ids : List ℕ} (l : Leads 
   leads_kept low top =
       let n = length counts in
       let size = length_leads_data flags firsts counts ids l.all l.named in
-      let all = all_all (lead_right s) 0 n (omega arith) (λ k a b. lead_kept k b) in
+      let all = all_all (lead_right s) 0 n (λ k a b. lead_kept k b) in
       let a = le-leb (18 + 9 * n) (length s) (omega (arith, l.holds.moved.least)) in
       let b = le-leb (length s) (18 + 9 * n + 1) (omega (arith, l.holds.moved.most)) in
       rw (leads_count, le-leb 1 n low, le-leb n 32 top, all, a, b)

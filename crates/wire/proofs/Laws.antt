@@ -140,9 +140,9 @@ unfolding each
 each_all zero i p h = refl
 each_all (suc n) i p h = rw (h i (omega arith) (omega arith)) (each_all n (i + 1) p (λ k a b. h k (omega arith) (omega arith)))
 
-pub all_all : (p : ℕ → Bool) (i e : ℕ) → i ≤ e → ((k : ℕ) → i ≤ k → k < e → p k ≡ true) → all_in i e p ≡ true
+pub all_all : (p : ℕ → Bool) (i e : ℕ) → ((k : ℕ) → i ≤ k → k < e → p k ≡ true) → all_in i e p ≡ true
 unfolding all_in
-all_all p i e l h = each_all (e - i) i p (λ k a b. h k a (omega arith))
+all_all p i e h = each_all (e - i) i p (λ k a b. h k a (omega arith))
 
 -- where a chain of rules answers 0, its first rule is kept, and the others answer 0
 pub kept_first : (kept : Bool) (number later : ℕ) → unless kept (suc number) later ≡ 0 → (kept ≡ true) × (later ≡ 0)

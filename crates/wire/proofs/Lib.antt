@@ -6,3 +6,4 @@ pub mod Xor
 pub mod Powers
 pub mod WordLaws
 pub mod Turns
+pub mod Ranges

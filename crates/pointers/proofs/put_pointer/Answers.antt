@@ -9,12 +9,6 @@ use lib.Seq.{sets-eq}
 use Rattle.pointers.specs.Pointers.{pointers_from}
 use Rattle.pointers.proofs.put_pointer.Goals as goal
 
-pub bounds-pointers-at-2 : goal.bounds-pointers-at-2
-bounds-pointers-at-2 c = simp length-set (omega arith)
-
-pub bounds-pointers-at-3 : goal.bounds-pointers-at-3
-bounds-pointers-at-3 c = simp length-set (omega arith)
-
 pub returns : goal.returns
 unfolding pointers_from
 returns c = let a = c.args in

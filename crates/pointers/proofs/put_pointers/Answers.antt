@@ -11,18 +11,9 @@ pub loop-k-init : goal.loop-k-init
 unfolding pointers_from
 loop-k-init c = (omega arith, c.requires.1, refl)
 
-pub put_pointer-requires : goal.put_pointer-requires
-put_pointer-requires c = (omega arith, c.loop-k.invariant.1)
-
 pub loop-k-preserved : goal.loop-k-preserved
 loop-k-preserved c = let l = c.loop-k in
     let a = c.args in
     let e = ap (λ (m : List ℕ). take (3 * l.k) m ++ (pointers_from a.rec.now l.k 1 ++ drop (3 * l.k + 3) m)) l.invariant.2 in
     let put = c.put_pointer in
     (omega arith, put.auto.pointers ∙ l.invariant.1, put.ensures ∙ e ∙ put_turn a.rec.now a.pointers.now l.k)
-
-pub returns : goal.returns
-returns c = let l = c.loop-k in
-    let a = c.args in
-    let e : l.k ≡ a.count = omega arith in
-    l.invariant.2 ∙ rw e
