@@ -24,11 +24,10 @@ pointers_more r k (suc n) =
     rw suc-add (ap (λ (l : List ℕ). id_of r k ∷ (length_of r k ∷ (index_of r k ∷ l))) h)
 
 -- a turn of that loop: with n pointers put before the rest of the list l, the next is put at its place
-pub put_turn : (r l : List ℕ) (n : ℕ) →
-    take (3 * n) (pointers_from r 0 n ++ drop (3 * n) l) ++ (pointers_from r n 1 ++ drop (3 * n + 3) (pointers_from r 0 n ++ drop (3 * n) l))
-    ≡ pointers_from r 0 (n + 1) ++ drop (3 * (n + 1)) l
-put_turn r l n =
+pub put_turn : (r l now : List ℕ) (n : ℕ) → now ≡ pointers_from r 0 n ++ drop (3 * n) l →
+    take (3 * n) now ++ (pointers_from r n 1 ++ drop (3 * n + 3) now) ≡ pointers_from r 0 (n + 1) ++ drop (3 * (n + 1)) l
+put_turn r l now n so =
     let e : 3 * n + 3 ≡ 3 * (n + 1) = omega arith in
     let z : 0 + n ≡ n = omega arith in
-    put_next (pointers_from r 0 n) (pointers_from r n 1) l (3 * n) 3 (length_pointers r 0 n)
-    ∙ rw (pointers_more r 0 n, z, e) (sym (append_assoc (pointers_from r 0 n) (pointers_from r n 1) (drop (3 * (n + 1)) l)))
+    rw so (put_next (pointers_from r 0 n) (pointers_from r n 1) l (3 * n) 3 (length_pointers r 0 n)
+    ∙ rw (pointers_more r 0 n, z, e) (sym (append_assoc (pointers_from r 0 n) (pointers_from r n 1) (drop (3 * (n + 1)) l))))
