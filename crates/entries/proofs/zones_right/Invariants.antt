@@ -1,5 +1,4 @@
 -- At every turn the last sample so far is at hand and the zones still to come decide; a wrong one decides at once.
-use Prim.Native.Nat.{◌-◌}
 use mathlib.Core.Path.{◌≡◌}
 use Rattle.wire.specs.RuleWords.{all_in}
 use Rattle.entries.specs.Section4.{last_before, zone_right}
@@ -7,6 +6,3 @@ use Rattle.entries.proofs.zones_right.Given as goal
 
 abbrev pub invariant-loop-k : goal.invariant-loop-k
 invariant-loop-k l = (l.last ≡ last_before l.s l.k) × (all_in l.k l.n (zone_right l.samples l.s) ≡ all_in 0 l.n (zone_right l.samples l.s))
-
-abbrev pub decreases-loop-k : goal.decreases-loop-k
-decreases-loop-k l = l.n - l.k
