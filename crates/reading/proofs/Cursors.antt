@@ -29,11 +29,9 @@ use Rattle.compiled.specs.InnerForm.{lowest, form_of, Compiled, CompiledOrNone}
 use Rattle.compiled.proofs.Laws.{FineForm, form_fine, held_right, held_count}
 use Rattle.reading.specs.Reading.{matching, value_of, read_coded, read_plain, read_next}
 use Rattle.reading.specs.Compared.{compared_in, compared_coded, compared_next}
+use Rattle.std.specs.Prelude.{Option as Answer, None, Some}
+use Rattle.reading.specs.declared.Cursor.{Cursor}
 use Rattle.reading.specs.InnerCursor.{Seen, found_in, formed, Placed, Onward}
-use Rattle.reading.specs.declared.Found.{Found}
-use Rattle.reading.specs.declared.Found.TheVariants.{At}
-use Rattle.reading.specs.declared.Read.{Read}
-use Rattle.reading.specs.declared.Read.TheVariants.{Value, Stuck}
 use Rattle.reading.proofs.Laws.{matched, table_at, read_switch, read_value, compared_switch, compared_value, to_value, to_switch}
 
 -- ---- two's complement, 131,072 added
@@ -126,7 +124,7 @@ pub record FoundForm (tables : List (List Structure)) (table : ℕ) (bs : List �
 
 -- a form that was found is such a one
 pub found_form : {tables : List (List Structure)} {tab : List ℕ} → Compiled tables tab → (table : ℕ) → 1 ≤ table → table ≤ 8
-    → (bs : List ℕ) (r : Found) (f : Form) (place : ℕ) → r ≡ At f place →
+    → (bs : List ℕ) (r : Answer (Form × ℕ)) (f : Form) (place : ℕ) → r ≡ Some (f, place) →
     let cs = get_or tables (table - 1) [] in
     found_in r ≡ formed (matching cs bs) → Placed (compared_in cs bs) r → FoundForm tables table bs f place
 unfolding form_of
@@ -228,6 +226,6 @@ next_plain tables tab (inr empty) e table bs = (rw empty.0, rw empty.0)
 -- ---- cursors that are further on
 
 -- what is further on than a place is further on than one before
-pub onward_from : (a b n : ℕ) → a ≤ b → (r : Read) → Onward b n r → Onward a n r
-onward_from a b n h (Value x c) o = omega arith
-onward_from a b n h Stuck o = tt
+pub onward_from : (a b n : ℕ) → a ≤ b → (r : Answer (ℕ × Cursor)) → Onward b n r → Onward a n r
+onward_from a b n h (Some x) o = omega arith
+onward_from a b n h None o = tt

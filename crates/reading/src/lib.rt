@@ -16,6 +16,7 @@ ghost use Rattle.reading.specs.Compared.{compared_in, compared_coded, compared_n
 ghost use Rattle.reading.specs.InnerCursor.{Seen, found_in, formed, Placed, told, told_of, Summed, SummedOf, Within, Leads, Onward, OnwardOf};
 
 use compiled::Form;
+use std::ops::ControlFlow;
 
 // A place in a stream of bits, the number of the current table, and how many structures were compared on the way: for each code as many
 // as the place of the matched structure in its table.
@@ -26,26 +27,8 @@ pub struct Cursor {
     pub compared: usize,
 }
 
-// The answer of reading a value: the value, 131,072 added, and the moved cursor; or that the code matches nothing or runs out.
-#[derive(Clone, Copy)]
-pub enum Read {
-    Value(usize, Cursor),
-    Stuck,
-}
-
 // The result of a burst of codes: an answer, or the place where reading goes on.
-#[derive(Clone, Copy)]
-pub enum Burst {
-    Ended(Read),
-    More(Cursor),
-}
-
-// The form of the structure whose prefix the bits begin with, and its place in the table, from 1.
-#[derive(Clone, Copy)]
-pub enum Found {
-    At(Form, usize),
-    Nothing,
-}
+type Burst = ControlFlow<Option<(usize, Cursor)>, Cursor>;
 
 // The window begins with a form's prefix, where `left` bits are left.
 fn begins_with(f: Form, w: u64, left: usize) -> bool
@@ -59,8 +42,8 @@ fn begins_with(f: Form, w: u64, left: usize) -> bool
     bits::top(w, p) == f.word as u64
 }
 
-// The form of the structure of table t, counted from 0, whose prefix the window begins with, and its place: the first such.
-fn walk(tab: &[u32], t: usize, w: u64, left: usize) -> Found
+// The form of the structure of table t, counted from 0, whose prefix the window begins with, and its place, from 1: the first such.
+fn walk(tab: &[u32], t: usize, w: u64, left: usize) -> Option<(Form, usize)>
     requires { CompiledSome tab.now × (t < 8) }
     ensures found { (tables : List (List Structure)) (bs : List ℕ) → Compiled tables tab.now → Seen bs w left
         → found_in result ≡ formed (matching (get_or tables t []) bs) }
@@ -72,11 +55,11 @@ fn walk(tab: &[u32], t: usize, w: u64, left: usize) -> Found
     while k < n {
         let f = compiled::form_at(tab, t, k);
         if begins_with(f, w, left) {
-            return Found::At(f, k + 1);
+            return Some((f, k + 1));
         }
         k += 1;
     }
-    Found::Nothing
+    None
 }
 
 // The window begins with a form's prefix, and that is p bits long. Since p is known before the form is, the next code's place does not
@@ -93,7 +76,7 @@ fn fits_guess(f: Form, p: usize, w: u64, left: usize) -> bool
 
 // The form that `walk` finds, most often at once: in a right table no other structure matches if the one that the first bits point to
 // does.
-fn find(tab: &[u32], t: usize, w: u64, left: usize) -> Found
+fn find(tab: &[u32], t: usize, w: u64, left: usize) -> Option<(Form, usize)>
     requires { CompiledSome tab.now × (t < 8) }
     ensures found { (tables : List (List Structure)) (bs : List ℕ) → Compiled tables tab.now → Seen bs w left
         → found_in result ≡ formed (matching (get_or tables t []) bs) }
@@ -106,7 +89,7 @@ fn find(tab: &[u32], t: usize, w: u64, left: usize) -> Found
     if k < tab[t * compiled::TABLE] as usize {
         let guessed = compiled::form_at(tab, t, k);
         if fits_guess(guessed, p, w, left) {
-            return Found::At(guessed, k + 1);
+            return Some((guessed, k + 1));
         }
     }
     walk(tab, t, w, left)
@@ -123,8 +106,9 @@ fn raised(n: usize, half: usize) -> usize
     bits::VALUE_ZERO + n - 2 * half
 }
 
-// The value of a form that is no switch and was matched at a place of its table, and the cursor behind its code.
-fn value_of(f: Form, place: usize, w: u64, left: usize, c: Cursor) -> Read
+// The value of a form that is no switch and was matched at a place of its table, 131,072 added, and the cursor behind its code; none
+// where the code runs out.
+fn value_of(f: Form, place: usize, w: u64, left: usize, c: Cursor) -> Option<(usize, Cursor)>
     requires { ((d : Structure) × (form_of d ≡ f) × (structure_right 8 d ≡ true) × (f.to ≡ 0)) × (f.prefix ≤ left) × (c.at ≤ 8388608)
         × (place ≤ most_structures) × Within (c.at + left) c }
     ensures told { (d : Structure) (bs : List ℕ) → form_of d ≡ f → structure_right 8 d ≡ true → d.base < 65536
@@ -138,27 +122,23 @@ fn value_of(f: Form, place: usize, w: u64, left: usize, c: Cursor) -> Read
     let p = f.prefix;
     let q = f.remainder;
     if q == 0 {
-        return Read::Value(
-            f.lo,
-            Cursor {
-                at: at + p,
-                table,
-                compared,
-            },
-        );
-    }
-    if left < p + q {
-        return Read::Stuck;
-    }
-    let n = bits::after(w, p, q) as usize;
-    Read::Value(
-        raised(n, bits::VALUE_ZERO - f.lo),
-        Cursor {
-            at: at + p + q,
+        let behind = Cursor {
+            at: at + p,
             table,
             compared,
-        },
-    )
+        };
+        return Some((f.lo, behind));
+    }
+    if left < p + q {
+        return None;
+    }
+    let n = bits::after(w, p, q) as usize;
+    let behind = Cursor {
+        at: at + p + q,
+        table,
+        compared,
+    };
+    Some((raised(n, bits::VALUE_ZERO - f.lo), behind))
 }
 
 impl Cursor {
@@ -188,15 +168,13 @@ impl Cursor {
         let t = self.table - 1;
         let left = s.len() * 8 - at;
         let w = bits::window(s, at);
-        match find(tab, t, w, left) {
-            Found::At(f, place) => {
-                if f.to == 0 {
-                    return Burst::Ended(value_of(f, place, w, left, self));
-                }
-                self.follow(s, tab, depth, f, place)
-            }
-            Found::Nothing => Burst::Ended(Read::Stuck),
+        let Some((f, place)) = find(tab, t, w, left) else {
+            return ControlFlow::Break(None);
+        };
+        if f.to == 0 {
+            return ControlFlow::Break(value_of(f, place, w, left, self));
         }
+        self.follow(s, tab, depth, f, place)
     }
 
     // A switch gives no value: reading carries on in the table that it leads to, or hands back the cursor where the depth is used up.
@@ -221,13 +199,13 @@ impl Cursor {
             compared: compared + place,
         };
         if depth == 0 {
-            return Burst::More(next);
+            return ControlFlow::Continue(next);
         }
         next.burst(s, tab, depth - 1)
     }
 
     // The next value, by bursts: the loop around the bounded depth.
-    fn by_bursts(self, s: &[u8], tab: &[u32]) -> Read
+    fn by_bursts(self, s: &[u8], tab: &[u32]) -> Option<(usize, Cursor)>
         requires { CompiledSome tab.now × (length s.now ≤ 1048576) × Within (length s.now * 8) self }
         ensures told { (tables : List (List Structure)) → Compiled tables tab.now
             → told (bits_in s.now) result ≡ read_coded tables self.table (drop self.at (bits_in s.now)) }
@@ -238,19 +216,15 @@ impl Cursor {
         let mut c = self;
         loop {
             match c.burst(s, tab, 64) {
-                Burst::Ended(r) => {
-                    return r;
-                }
-                Burst::More(d) => {
-                    c = d;
-                }
+                ControlFlow::Break(r) => return r,
+                ControlFlow::Continue(d) => c = d,
             }
         }
     }
 
     // The next value of a stream that is coded by tables. Most often it is the first code's: that is tried here, so that the functions
     // that call each other run only where it is a switch's.
-    fn coded(self, s: &[u8], tab: &[u32]) -> Read
+    fn coded(self, s: &[u8], tab: &[u32]) -> Option<(usize, Cursor)>
         requires { CompiledSome tab.now × (length s.now ≤ 1048576) × Within (length s.now * 8) self }
         ensures told { (tables : List (List Structure)) → Compiled tables tab.now
             → told (bits_in s.now) result ≡ read_coded tables self.table (drop self.at (bits_in s.now)) }
@@ -262,22 +236,18 @@ impl Cursor {
         let t = self.table - 1;
         let left = s.len() * 8 - at;
         let w = bits::window(s, at);
-        match find(tab, t, w, left) {
-            Found::At(first, place) => {
-                if first.to == 0 {
-                    return value_of(first, place, w, left, self);
-                }
-                match self.follow(s, tab, 64, first, place) {
-                    Burst::Ended(r) => r,
-                    Burst::More(d) => d.by_bursts(s, tab),
-                }
-            }
-            Found::Nothing => Read::Stuck,
+        let (first, place) = find(tab, t, w, left)?;
+        if first.to == 0 {
+            return value_of(first, place, w, left, self);
+        }
+        match self.follow(s, tab, 64, first, place) {
+            ControlFlow::Break(r) => r,
+            ControlFlow::Continue(d) => d.by_bursts(s, tab),
         }
     }
 
     // The next value of a stream without tables: two signed bytes.
-    fn plain(self, s: &[u8]) -> Read
+    fn plain(self, s: &[u8]) -> Option<(usize, Cursor)>
         requires { (length s.now ≤ 1048576) × Within (length s.now * 8) self }
         ensures told { told (bits_in s.now) result ≡ read_plain self.table (drop self.at (bits_in s.now)) }
         ensures onward { Onward self.at (length s.now * 8) result }
@@ -287,22 +257,21 @@ impl Cursor {
         let table = self.table;
         let compared = self.compared;
         if s.len() * 8 - at < 16 {
-            return Read::Stuck;
+            return None;
         }
         let w = bits::window(s, at);
         let n = bits::top(w, 8) as usize + bits::after(w, 8, 8) as usize * 256;
-        Read::Value(
-            raised(n, bits::SAMPLE_ZERO),
-            Cursor {
-                at: at + 16,
-                table,
-                compared,
-            },
-        )
+        let behind = Cursor {
+            at: at + 16,
+            table,
+            compared,
+        };
+        Some((raised(n, bits::SAMPLE_ZERO), behind))
     }
 
-    // The next value of a stream: by the tables held, or, where none are (no Section 2), in two signed bytes.
-    pub fn value(self, s: &[u8], tab: &[u32]) -> Read
+    // The next value of a stream, 131,072 added, and the moved cursor; none where the bits match no code or run out. It is read by the
+    // tables held, or, where none are (no Section 2), in two signed bytes.
+    pub fn value(self, s: &[u8], tab: &[u32]) -> Option<(usize, Cursor)>
         requires { CompiledSomeOrNone tab.now × (length s.now ≤ 1048576) × Within (length s.now * 8) self }
         ensures told { (tables : List (List Structure)) → CompiledOrNone tables tab.now
             → told (bits_in s.now) result ≡ read_next tables self.table (drop self.at (bits_in s.now)) }
