@@ -9,13 +9,12 @@ use native.Mathlib.Omega.{arith}
 use borrow.Author.Tests.{leb-true, eqb-true, le-leb}
 use lib.Dec.{leb, eqb}
 use lib.ListN.{length}
+use Rattle.std.specs.Prelude.{Option, Some, None}
 use Rattle.wire.specs.Numbers.{byte_at, number_at}
 use Rattle.wire.specs.RuleWords.{all_in, ends_by}
 use Rattle.wire.proofs.Laws.{unlike}
 use Rattle.wire.proofs.Places.{Moved, moved_number, moved_end, each_moved}
 use Rattle.header.specs.declared.Field.{Field}
-use Rattle.header.specs.declared.Step.{Step}
-use Rattle.header.specs.declared.Step.TheVariants.{Found, End}
 use Rattle.header.specs.Fields.{is_field, field_at, step_at, fields_from, fields_end, with_tag, occurring, size_of}
 use Rattle.header.specs.Header.{ends_at, sole, found_keeps, is_identifier, has_size, any_field, tags_right, section1_right}
 use Rattle.header.proofs.Laws.{along, fields_step, end_here, end_later}
@@ -24,9 +23,9 @@ use Rattle.header.proofs.Laws.{along, fields_step, end_here, end_later}
 abbrev pub moved : Field → Field
 moved f = record { tag = f.tag; start = 16 + f.start; end = 16 + f.end }
 
-abbrev pub moved_step : Step → Step
-moved_step (Found f) = Found (moved f)
-moved_step End = End
+abbrev pub moved_step : Option Field → Option Field
+moved_step (Some f) = Some (moved f)
+moved_step None = None
 
 -- ---- lists of fields
 
@@ -54,10 +53,10 @@ sole_moved (f ∷ []) = refl
 sole_moved (f ∷ (g ∷ fs)) = refl
 
 -- a rule that the moved field keeps where the field does
-found_keeps_moved : (p q : Field → Bool) → ((f : Field) → p f ≡ true → q (moved f) ≡ true) → (s : Step) → found_keeps p s ≡ true
+found_keeps_moved : (p q : Field → Bool) → ((f : Field) → p f ≡ true → q (moved f) ≡ true) → (s : Option Field) → found_keeps p s ≡ true
     → found_keeps q (moved_step s) ≡ true
-found_keeps_moved p q h (Found f) e = h f e
-found_keeps_moved p q h End e = e
+found_keeps_moved p q h (Some f) e = h f e
+found_keeps_moved p q h None e = e
 
 -- the end of moved fields
 end_moved : (at : ℕ) (fs : List Field) → fields_end (16 + at) (map moved fs) ≡ 16 + fields_end at fs
@@ -89,21 +88,21 @@ module _ {r s : List ℕ} (m : Moved r 16 s) where
       rw (m.byte at, e, a, b, q.0)
 
   -- a step that shows a field shows it there
-  step_moved : (at : ℕ) (f : Field) → step_at s at ≡ Found f → step_at r (16 + at) ≡ Found (moved f)
+  step_moved : (at : ℕ) (f : Field) → step_at s at ≡ Some f → step_at r (16 + at) ≡ Some (moved f)
   unfolding step_at
   step_moved at f g = go (is_field s at) refl g
     where
-      go : (b : Bool) → is_field s at ≡ b → cond b (Found (field_at s at)) End ≡ Found f
-          → cond (is_field r (16 + at)) (Found (field_at r (16 + at))) End ≡ Found (moved f)
+      go : (b : Bool) → is_field s at ≡ b → cond b (Some (field_at s at)) None ≡ Some f
+          → cond (is_field r (16 + at)) (Some (field_at r (16 + at))) None ≡ Some (moved f)
       go true e g = let same : field_at s at ≡ f = cc in rw (whole_moved at e, field_moved at, same)
       go false e g = unlike cc
 
   -- at an end mark there is no field
-  step_end : (at : ℕ) → byte_at s at ≡ 255 → step_at r (16 + at) ≡ End
+  step_end : (at : ℕ) → byte_at s at ≡ 255 → step_at r (16 + at) ≡ None
   unfolding step_at is_field
   step_end at e = rw (m.byte at, e) (go (leb (16 + at + 3) (length r)))
     where
-      go : (b : Bool) → cond (b && false) (Found (field_at r (16 + at))) End ≡ End
+      go : (b : Bool) → cond (b && false) (Some (field_at r (16 + at))) None ≡ None
       go true = refl
       go false = refl
 
@@ -116,14 +115,14 @@ module _ {r s : List ℕ} (m : Moved r 16 s) where
   abbrev Same : ℕ → Type 0
   Same at = ends_at 0 s (fields_end at (fields_from s at)) ≡ true → fields_from r (16 + at) ≡ map moved (fields_from s at)
 
-  fields_turn : (at : ℕ) → ((f : Field) → step_at s at ≡ Found f → Same f.end) → Same at
+  fields_turn : (at : ℕ) → ((f : Field) → step_at s at ≡ Some f → Same f.end) → Same at
   fields_turn at later e = go (step_at s at) refl
     where
-      go : (t : Step) → step_at s at ≡ t → fields_from r (16 + at) ≡ map moved (fields_from s at)
-      go End g =
+      go : (t : Option Field) → step_at s at ≡ t → fields_from r (16 + at) ≡ map moved (fields_from s at)
+      go None g =
           let z = step_end at (mark_there at (rw (end_here s at g) at e)) in
           rw (fields_step s at, fields_step r (16 + at), g, z)
-      go (Found f) g =
+      go (Some f) g =
           let z = step_moved at f g in
           rw (fields_step s at, fields_step r (16 + at), g, z)
           (ap (λ (l : List Field). moved f ∷ l) (later f g (rw (end_later s at f g) at e)))

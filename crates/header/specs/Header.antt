@@ -1,10 +1,8 @@
 -- Refusal 6: the rule that Section 1's data keep (01, Header fields and the patient identifier; 01, Refusal numbers).
-use Rattle.std.specs.Prelude.{ℕ, ◌+◌, ◌-◌, Bool, true, false, not, ◌&&◌, List, [], ◌∷◌, leb, eqb}
+use Rattle.std.specs.Prelude.{ℕ, ◌+◌, ◌-◌, Bool, true, false, not, ◌&&◌, List, [], ◌∷◌, leb, eqb, Option, Some, None}
 use Rattle.wire.specs.Numbers.{byte_at, number_at}
 use Rattle.wire.specs.RuleWords.{all_in, ends_by}
 use Rattle.header.specs.declared.Field.{Field}
-use Rattle.header.specs.declared.Step.{Step}
-use Rattle.header.specs.declared.Step.TheVariants.{Found, End}
 use Rattle.header.specs.Fields.{fields_from, fields_end, with_tag, size_of}
 
 -- the end mark FF 00 00 is at a place, with at most `spare` bytes after it
@@ -14,15 +12,15 @@ ends_at spare s at =
     && (eqb (number_at 2 s (at + 1)) 0 && ends_by spare s (at + 3))
 
 -- the one field of a list that has exactly one
-unfoldable pub sole : List Field → Step
-sole [] = End
-sole (f ∷ []) = Found f
-sole (f ∷ (g ∷ fs)) = End
+unfoldable pub sole : List Field → Option Field
+sole [] = None
+sole (f ∷ []) = Some f
+sole (f ∷ (g ∷ fs)) = None
 
 -- there is such a field, and it keeps a rule of its own
-abbrev pub found_keeps : (Field → Bool) → Step → Bool
-found_keeps rule (Found f) = rule f
-found_keeps rule End = false
+abbrev pub found_keeps : (Field → Bool) → Option Field → Bool
+found_keeps rule (Some f) = rule f
+found_keeps rule None = false
 
 -- the patient identifier: 2 to 64 bytes, of which the last is NUL and no other
 unfoldable pub is_identifier : List ℕ → Field → Bool

@@ -5,8 +5,8 @@
 ghost use Rattle.std.specs.Prelude.{◌≡◌, not, eqb};
 ghost use Rattle.wire.specs.Numbers.{byte_at};
 ghost use Rattle.wire.specs.RuleWords.{all_in};
-ghost use Rattle.header.specs.Fields.{step_at, fields_from, fields_end, with_tag, occurring};
-ghost use Rattle.header.specs.Header.{ends_at, sole, found_keeps, is_identifier, any_field, has_size, section1_right};
+ghost use Rattle.header.specs.Fields.{step_at, fields_from, fields_end, with_tag, occurring, size_of};
+ghost use Rattle.header.specs.Header.{ends_at, sole, is_identifier, section1_right};
 
 // A field: its tag, and its bytes from `start` up to `end` of the list that was walked.
 #[derive(Clone, Copy)]
@@ -16,231 +16,122 @@ pub struct Field {
     pub end: usize,
 }
 
-// A step of the walk shows a field, or the end.
-#[derive(Clone, Copy)]
-pub enum Step {
-    Found(Field),
-    End,
+impl Field {
+    // How many bytes the field has.
+    pub fn size(self) -> usize
+        ensures { result ≡ size_of self }
+    {
+        self.end.saturating_sub(self.start)
+    }
 }
 
 // A step of the walk: the field at a place, or the end.
-pub fn step_at(s: &[u8], at: usize) -> Step
+#[tactic(auto, unfolding(crate::specs::Fields::step_at, crate::specs::Fields::is_field, crate::specs::Fields::field_at))]
+pub fn step_at(s: &[u8], at: usize) -> Option<Field>
     ensures { result ≡ step_at s.now at }
 {
-    if s.len() <= at {
-        return Step::End;
-    }
-    if s.len() - at < 3 {
-        return Step::End;
-    }
-    let tag = s[at];
-    if tag == 255 {
-        return Step::End;
+    if s.len().saturating_sub(at) < 3 || s[at] == 255 {
+        return None;
     }
     let start = at + 3;
     let end = start + wire::number16(s, at + 1);
     if s.len() < end {
-        return Step::End;
+        return None;
     }
-    Step::Found(Field { tag, start, end })
+    Some(Field {
+        tag: s[at],
+        start,
+        end,
+    })
 }
 
 // The next field with a tag, from a place on.
-pub fn next_named(s: &[u8], at: usize, tag: u8) -> Step
+#[tactic(auto, using(crate::proofs::Laws::steps))]
+pub fn next_named(s: &[u8], at: usize, tag: u8) -> Option<Field>
     ensures { result ≡ occurring 1 (with_tag tag (fields_from s.now at)) }
 {
     let mut from = at;
-    loop {
-        match step_at(s, from) {
-            Step::Found(f) => {
-                if f.tag == tag {
-                    return Step::Found(f);
-                }
-                from = f.end;
-            }
-            Step::End => {
-                return Step::End;
-            }
+    while let Some(f) = step_at(s, from) {
+        if f.tag == tag {
+            return Some(f);
         }
+        from = f.end;
     }
+    None
 }
 
 // The field with a tag that is asked for by its occurrence, counted from 1.
-pub fn find(s: &[u8], at: usize, tag: u8, occurrence: usize) -> Step
+#[tactic(auto, using(crate::proofs::Laws::firsts), unfolding(crate::specs::Fields::occurring))]
+pub fn find(s: &[u8], at: usize, tag: u8, occurrence: usize) -> Option<Field>
     ensures { result ≡ occurring occurrence (with_tag tag (fields_from s.now at)) }
 {
     if occurrence == 0 {
-        return Step::End;
+        return None;
     }
     let mut from = at;
-    let mut left = occurrence;
-    while 1 < left {
-        match next_named(s, from, tag) {
-            Step::Found(f) => {
-                from = f.end;
-                left -= 1;
-            }
-            Step::End => {
-                return Step::End;
-            }
-        }
+    for _passed in 1..occurrence {
+        from = next_named(s, from, tag)?.end;
     }
     next_named(s, from, tag)
 }
 
 // Where the fields from a place on end.
+#[tactic(auto, using(crate::proofs::Laws::steps))]
 fn walk_end(s: &[u8], at: usize) -> usize
     ensures { result ≡ fields_end at (fields_from s.now at) }
 {
-    let mut from = at;
-    loop {
-        match step_at(s, from) {
-            Step::Found(f) => {
-                from = f.end;
-            }
-            Step::End => {
-                return from;
-            }
-        }
+    let mut end = at;
+    while let Some(f) = step_at(s, end) {
+        end = f.end;
     }
+    end
 }
 
 // The field with a tag, if the tag occurs exactly once.
-fn sole_named(s: &[u8], at: usize, tag: u8) -> Step
+#[tactic(auto, using(crate::proofs::Laws::firsts), unfolding(crate::specs::Header::sole))]
+fn sole_named(s: &[u8], at: usize, tag: u8) -> Option<Field>
     ensures { result ≡ sole (with_tag tag (fields_from s.now at)) }
 {
-    match next_named(s, at, tag) {
-        Step::Found(f) => {
-            let from = f.end;
-            match next_named(s, from, tag) {
-                Step::Found(_) => Step::End,
-                Step::End => Step::Found(f),
-            }
-        }
-        Step::End => Step::End,
-    }
+    let first = next_named(s, at, tag)?;
+    next_named(s, first.end, tag).is_none().then_some(first)
 }
 
 // The end mark is at a place, with at most `spare` bytes after it.
+#[tactic(auto, unfolding(crate::specs::Header::ends_at, wire::specs::RuleWords::ends_by))]
 fn ends_at(s: &[u8], at: usize, spare: usize) -> bool
     ensures { result ≡ ends_at spare s.now at }
 {
-    if s.len() <= at {
-        return false;
-    }
-    let left = s.len() - at;
-    if wire::byte(s, at) != 255 {
-        return false;
-    }
-    if wire::number16(s, at + 1) != 0 {
-        return false;
-    }
-    if left < 3 {
-        return false;
-    }
-    if spare < left - 3 {
-        return false;
-    }
-    true
+    at < s.len()
+        && wire::byte(s, at) == 255
+        && wire::number16(s, at + 1) == 0
+        && 3 <= s.len() - at
+        && s.len() - at - 3 <= spare
 }
 
 // No byte from one place up to another is NUL. A byte that is not there counts as NUL.
 pub fn no_nul(s: &[u8], from: usize, to: usize) -> bool
     ensures { result ≡ all_in from to (λ i. not (eqb (byte_at s.now i) 0)) }
 {
-    if s.len() < to {
-        return to <= from;
-    }
-    let mut i = from;
-    while i < to {
-        if s[i] == 0 {
-            return false;
-        }
-        i += 1;
-    }
-    true
+    to <= from || to <= s.len() && !s[from..to].contains(&0)
 }
 
 // The patient identifier has 2 to 64 bytes, of which the last is NUL and no other.
+#[tactic(auto, unfolding(crate::specs::Header::is_identifier))]
 fn is_identifier(s: &[u8], f: Field) -> bool
     ensures { result ≡ is_identifier s.now f }
 {
-    let start = f.start;
-    let end = f.end;
-    if end <= start {
-        return false;
-    }
-    if end - start < 2 {
-        return false;
-    }
-    if 64 < end - start {
-        return false;
-    }
-    let last = end - 1;
-    if wire::byte(s, last) != 0 {
-        return false;
-    }
-    no_nul(s, start, last)
-}
-
-// Tag 2 occurs once, and is an identifier.
-fn has_identifier(s: &[u8], at: usize) -> bool
-    ensures { result ≡ found_keeps (is_identifier s.now) (sole (with_tag 2 (fields_from s.now at))) }
-{
-    match sole_named(s, at, 2) {
-        Step::Found(f) => is_identifier(s, f),
-        Step::End => false,
-    }
-}
-
-// A tag occurs once.
-fn has_field(s: &[u8], at: usize, tag: u8) -> bool
-    ensures { result ≡ found_keeps any_field (sole (with_tag tag (fields_from s.now at))) }
-{
-    match sole_named(s, at, tag) {
-        Step::Found(_) => true,
-        Step::End => false,
-    }
-}
-
-// A tag occurs once, with `size` bytes.
-fn has_sized(s: &[u8], at: usize, tag: u8, size: usize) -> bool
-    ensures { result ≡ found_keeps (has_size size) (sole (with_tag tag (fields_from s.now at))) }
-{
-    match sole_named(s, at, tag) {
-        Step::Found(f) => size_is(f, size),
-        Step::End => false,
-    }
-}
-
-// A field has `size` bytes.
-fn size_is(f: Field, size: usize) -> bool
-    ensures { result ≡ has_size size f }
-{
-    let start = f.start;
-    let end = f.end;
-    if end <= start {
-        return 0 == size;
-    }
-    end - start == size
+    let size = f.size();
+    2 <= size && size <= 64 && wire::byte(s, f.end - 1) == 0 && no_nul(s, f.start, f.end - 1)
 }
 
 // The data keep their rule: refusal 6 is not due. At most `spare` bytes follow the end mark.
+#[tactic(auto, unfolding(crate::specs::Header::section1_right, crate::specs::Header::tags_right, crate::specs::Header::has_size))]
 pub fn section1_right(s: &[u8], at: usize, spare: usize) -> bool
     ensures { result ≡ section1_right spare s.now at }
 {
-    let end = walk_end(s, at);
-    if !ends_at(s, end, spare) {
-        return false;
-    }
-    if !has_identifier(s, at) {
-        return false;
-    }
-    if !has_field(s, at, 14) {
-        return false;
-    }
-    if !has_sized(s, at, 25, 4) {
-        return false;
-    }
-    has_sized(s, at, 26, 3)
+    ends_at(s, walk_end(s, at), spare)
+        && sole_named(s, at, 2).is_some_and(|f| is_identifier(s, f))
+        && sole_named(s, at, 14).is_some()
+        && sole_named(s, at, 25).is_some_and(|f| f.size() == 4)
+        && sole_named(s, at, 26).is_some_and(|f| f.size() == 3)
 }
