@@ -130,3 +130,24 @@ unfolding turned
 window_begins bs w p c seen small h l =
     let e = length_low_first p c in
     rw (seen p h l) (rw e at (begins_number (low_first p c) bs (small_low_first p c) small (omega arith)))
+
+-- eight bytes are read one after another: each comes after the number of those before it
+pub eight_bytes : (s : List ℕ) (i : ℕ) → ((j : ℕ) → get_or s j 0 < 256) → i + 8 ≤ length s
+    → number_of (take 64 (drop (i * 8) (bits_in s)))
+    ≡ ((((((get_or s i 0 * 256 + get_or s (i + 1) 0) * 256 + get_or s (i + 2) 0) * 256 + get_or s (i + 3) 0) * 256
+    + get_or s (i + 4) 0) * 256 + get_or s (i + 5) 0) * 256 + get_or s (i + 6) 0) * 256 + get_or s (i + 7) 0
+unfolding number_after
+eight_bytes s i b h =
+    next i (i + 1) 0 56 (omega arith) (omega arith)
+    ∙ next (i + 1) (i + 2) _ 48 (omega arith) (omega arith)
+    ∙ next (i + 2) (i + 3) _ 40 (omega arith) (omega arith)
+    ∙ next (i + 3) (i + 4) _ 32 (omega arith) (omega arith)
+    ∙ next (i + 4) (i + 5) _ 24 (omega arith) (omega arith)
+    ∙ next (i + 5) (i + 6) _ 16 (omega arith) (omega arith)
+    ∙ next (i + 6) (i + 7) _ 8 (omega arith) (omega arith)
+    ∙ next (i + 7) (i + 8) _ 0 (omega arith) (omega arith)
+    ∙ omega arith
+  where
+    next : (j j' a n : ℕ) → j' ≡ j + 1 → j < length s
+        → number_after a (take (8 + n) (drop (j * 8) (bits_in s))) ≡ number_after (a * 256 + get_or s j 0) (take n (drop (j' * 8) (bits_in s)))
+    next j j' a n e l = byte_more s j j' a (get_or s j 0) (8 + n) n e refl l refl (b j)

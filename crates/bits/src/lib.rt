@@ -18,14 +18,14 @@ pub fn word(s: &[u8], i: usize) -> u64
     requires { i + 8 ≤ length s.now }
     ensures { result ≡ number_of (take 64 (drop (i * 8) (bits_in s.now))) }
 {
-    wide(s[i + 7])
-        + wide(s[i + 6]) * 256
-        + wide(s[i + 5]) * 65536
-        + wide(s[i + 4]) * 16777216
-        + wide(s[i + 3]) * 4294967296
-        + wide(s[i + 2]) * 1099511627776
-        + wide(s[i + 1]) * 281474976710656
-        + wide(s[i]) * 72057594037927936
+    u64::from(s[i + 7])
+        + u64::from(s[i + 6]) * 256
+        + u64::from(s[i + 5]) * 65536
+        + u64::from(s[i + 4]) * 16777216
+        + u64::from(s[i + 3]) * 4294967296
+        + u64::from(s[i + 2]) * 1099511627776
+        + u64::from(s[i + 1]) * 281474976710656
+        + u64::from(s[i]) * 72057594037927936
 }
 
 // The same near the end of the bytes, with zeros in place of those that are not there. The loop is over those that are there, so that

@@ -31,7 +31,7 @@ all_false p a b k l m h = go (all_in a b p) refl
 pub all_over : {F : Type 0} {g : Mut F (ℕ × Unit {0}) Bool} {s : Range ℕ} (u : Range ℕ) (f : F) (r : Bool) (a b : ℕ) (p : ℕ → Bool)
     → s ≡ record { start = a; end = b }
     → (xs : List ℕ) × (o : Option ℕ) × (j : F) × YieldsThen nat_range_steps s xs o u × FoldsTo (λ q x t. Called g q (x, tt) true t) f xs j
-        × MatchOption o (r ≡ true) (λ x. (r ≡ false) × ((h : F) × Called g j (x, tt) false h))
+    × MatchOption o (r ≡ true) (λ x. (r ≡ false) × ((h : F) × Called g j (x, tt) false h))
     → ((x : ℕ) (q : F) → Called g f (x, tt) true q → (q ≡ f) × (p x ≡ true))
     → ((x : ℕ) (q : F) → Called g f (x, tt) false q → p x ≡ false)
     → r ≡ all_in a b p
@@ -40,6 +40,7 @@ all_over u f r a b p e ran good bad = answers r
   where
     nth : (k : ℕ) → a ≤ k → k < b → get_or (range_with_len a (b - a)) (k - a) 0 ≡ k
     nth k l m = get_or-range_with_len a (b - a) (k - a) 0 (omega arith) ∙ (omega arith)
+
     answers : (r : Bool) → MatchBool r (AllWithin (λ x. p x ≡ true) (range_with_len a (b - a)) 0 (length (range_with_len a (b - a))))
         ((k : ℕ) × (k < length (range_with_len a (b - a))) × HoldsAt (λ x. p x ≡ false) (range_with_len a (b - a)) k)
         → r ≡ all_in a b p

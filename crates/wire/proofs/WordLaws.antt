@@ -1,12 +1,14 @@
 -- What a word, eight bytes at once, does to the check's register. Assumes nothing.
 use mathlib.Core.Bool.{true}
 use mathlib.Core.Path.{◌≡◌, refl, sym, ap, ap₂, ◌∙◌}
-use mathlib.Core.List.{List}
+use mathlib.Core.List.{List, [], ◌∷◌, ◌++◌}
 use Prim.Native.Nat.{ℕ, zero, suc, ◌+◌, ◌*◌, ◌/◌, ◌%◌, ◌^◌, ◌<◌, ◌≤◌}
 use native.Mathlib.Nat.{mod-eq_of_lt}
 use native.Mathlib.Omega.{arith}
-use lib.ListN.{length, get_or, drop}
+use lib.ListN.{length, get_or, take, drop, take-append-drop, drop_of_length-le}
 use lib.Bits.{bit_xor, xor_zero_l, xor_zero_r, xor_comm, xor_shr, xor_mod}
+use Rattle.bits.specs.Bits.{bits_in, number_of}
+use Rattle.bits.proofs.Windows.{eight_bytes as as_bits}
 use Rattle.wire.specs.RuleWords.{each, all_in}
 use Rattle.wire.specs.Check.{crc_bit, crc_bits, crc_byte, crc_from}
 use Rattle.wire.specs.InnerCheck.{fed, quotient}
@@ -121,34 +123,44 @@ more n c x s i j {b} e l n1 =
     ∙ ap₂ (λ (y z : ℕ). crc_from (crc_byte (fed n c y) z) (drop (i + 1) s)) (sym d) (sym (m ∙ e.0))
     ∙ ap (λ (k : ℕ). crc_from (fed (suc n) c (x * 256 + b)) (drop k s)) n1
 
-pub eight_bytes : (c : ℕ) (s : List ℕ) (i : ℕ) {a b d e f g h k : ℕ}
-    → (a ≡ get_or s i 0) × (a < 256)
-    → (b ≡ get_or s (i + 1) 0) × (b < 256)
-    → (d ≡ get_or s (i + 2) 0) × (d < 256)
-    → (e ≡ get_or s (i + 3) 0) × (e < 256)
-    → (f ≡ get_or s (i + 4) 0) × (f < 256)
-    → (g ≡ get_or s (i + 5) 0) × (g < 256)
-    → (h ≡ get_or s (i + 6) 0) × (h < 256)
-    → (k ≡ get_or s (i + 7) 0) × (k < 256)
-    → i + 8 ≤ length s
-    → crc_from c (drop i s)
-    ≡ crc_from (fed 8 c (k + h * 256 + g * 65536 + f * 16777216 + e * 4294967296 + d * 1099511627776 + b * 281474976710656 + a * 72057594037927936)) (drop (i + 8) s)
+-- eight bytes go into the register as the word that their bits are
+pub eight_bytes : (c : ℕ) (s : List ℕ) (i : ℕ) → ((j : ℕ) → get_or s j 0 < 256) → i + 8 ≤ length s
+    → crc_from c (drop i s) ≡ crc_from (fed 8 c (number_of (take 64 (drop (i * 8) (bits_in s))))) (drop (i + 8) s)
 unfolding fed
-eight_bytes c s i {a} {b} {d} {e} {f} {g} {h} {k} ea eb ed ee ef eg eh ek l =
-    let x1 = 0 * 256 + a in
-    let x2 = x1 * 256 + b in
-    let x3 = x2 * 256 + d in
-    let x4 = x3 * 256 + e in
-    let x5 = x4 * 256 + f in
-    let x6 = x5 * 256 + g in
-    let x7 = x6 * 256 + h in
-    let sum : x7 * 256 + k ≡ k + h * 256 + g * 65536 + f * 16777216 + e * 4294967296 + d * 1099511627776 + b * 281474976710656 + a * 72057594037927936 = omega arith in
-    more 0 c 0 s i (i + 1) ea (omega arith) refl
-    ∙ more 1 c x1 s (i + 1) (i + 2) eb (omega arith) (omega arith)
-    ∙ more 2 c x2 s (i + 2) (i + 3) ed (omega arith) (omega arith)
-    ∙ more 3 c x3 s (i + 3) (i + 4) ee (omega arith) (omega arith)
-    ∙ more 4 c x4 s (i + 4) (i + 5) ef (omega arith) (omega arith)
-    ∙ more 5 c x5 s (i + 5) (i + 6) eg (omega arith) (omega arith)
-    ∙ more 6 c x6 s (i + 6) (i + 7) eh (omega arith) (omega arith)
-    ∙ more 7 c x7 s (i + 7) (i + 8) ek (omega arith) (omega arith)
+eight_bytes c s i b l =
+    let x1 = 0 * 256 + get_or s i 0 in
+    let x2 = x1 * 256 + get_or s (i + 1) 0 in
+    let x3 = x2 * 256 + get_or s (i + 2) 0 in
+    let x4 = x3 * 256 + get_or s (i + 3) 0 in
+    let x5 = x4 * 256 + get_or s (i + 4) 0 in
+    let x6 = x5 * 256 + get_or s (i + 5) 0 in
+    let x7 = x6 * 256 + get_or s (i + 6) 0 in
+    let x8 = x7 * 256 + get_or s (i + 7) 0 in
+    let sum : x8 ≡ number_of (take 64 (drop (i * 8) (bits_in s))) = omega (arith, as_bits s i b l) in
+    more 0 c 0 s i (i + 1) (refl, b i) (omega arith) refl
+    ∙ more 1 c x1 s (i + 1) (i + 2) (refl, b (i + 1)) (omega arith) (omega arith)
+    ∙ more 2 c x2 s (i + 2) (i + 3) (refl, b (i + 2)) (omega arith) (omega arith)
+    ∙ more 3 c x3 s (i + 3) (i + 4) (refl, b (i + 3)) (omega arith) (omega arith)
+    ∙ more 4 c x4 s (i + 4) (i + 5) (refl, b (i + 4)) (omega arith) (omega arith)
+    ∙ more 5 c x5 s (i + 5) (i + 6) (refl, b (i + 5)) (omega arith) (omega arith)
+    ∙ more 6 c x6 s (i + 6) (i + 7) (refl, b (i + 6)) (omega arith) (omega arith)
+    ∙ more 7 c x7 s (i + 7) (i + 8) (refl, b (i + 7)) (omega arith) (omega arith)
     ∙ ap (λ (x : ℕ). crc_from (fed 8 c x) (drop (i + 8) s)) sum
+
+-- ---- bytes one part after another
+
+-- the register after two parts
+from_parts : (c : ℕ) (a b : List ℕ) → crc_from c (a ++ b) ≡ crc_from (crc_from c a) b
+unfolding crc_from
+from_parts c [] b = refl
+from_parts c (x ∷ a) b = from_parts (crc_byte c x) a b
+
+-- where v is the register after the first k bytes, those behind them go on from it
+pub from_behind : (c v k : ℕ) (s : List ℕ) → crc_from c (take k s) ≡ v → crc_from c s ≡ crc_from v (drop k s)
+from_behind c v k s e =
+    ap (crc_from c) (sym (take-append-drop k s)) ∙ from_parts c (take k s) (drop k s) ∙ ap (λ (x : ℕ). crc_from x (drop k s)) e
+
+-- a law of the bytes of a list up to k is one of the whole list, if it has no more
+pub from_whole : (c v k : ℕ) (s : List ℕ) → length s ≤ k → crc_from c s ≡ crc_from v (drop k s) → crc_from c s ≡ v
+unfolding crc_from
+from_whole c v k s h e = e ∙ ap (crc_from v) (drop_of_length-le s h)

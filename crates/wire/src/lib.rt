@@ -18,10 +18,8 @@ pub const MOST_SAMPLES: usize = 65536;
 pub fn bytes_fit(s: &[u8])
     ensures { are_bytes s.now ≡ true }
 {
-    let mut i = 0;
-    while i < s.len() {
-        let _byte = s[i];
-        i += 1;
+    for byte in s {
+        let _byte = *byte;
     }
 }
 
@@ -29,10 +27,7 @@ pub fn bytes_fit(s: &[u8])
 pub fn byte(s: &[u8], i: usize) -> usize
     ensures { (result ≡ byte_at s.now i) × (result < 256) }
 {
-    if s.len() <= i {
-        return 0;
-    }
-    s[i] as usize
+    s.get(i).copied().map_or(0, usize::from)
 }
 
 // The number in two bytes.
@@ -59,30 +54,16 @@ pub fn number32(s: &[u8], i: usize) -> usize
 pub fn part_of<'a>(s: &'a [u8], start: usize, end: usize) -> &'a [u8]
     ensures { result.now ≡ part s.now start end }
 {
-    if end <= start {
-        return &s[..0];
-    }
-    if s.len() <= start {
-        return &s[..0];
-    }
-    if s.len() <= end {
-        return &s[start..];
-    }
-    &s[start..end]
+    s.get(start..end.min(s.len())).unwrap_or(&s[..0])
 }
 
 // Bytes end at a place, with at most `spare` bytes behind.
+#[tactic(auto, unfolding(crate::specs::RuleWords::ends_by))]
 pub fn ends_by(s: &[u8], end: usize, spare: usize) -> bool
     requires { (end < 8388608) × (spare ≤ 1) }
     ensures { result ≡ ends_by spare s.now end }
 {
-    if s.len() < end {
-        return false;
-    }
-    if end + spare < s.len() {
-        return false;
-    }
-    true
+    end <= s.len() && s.len() <= end + spare
 }
 
 // A number of two bytes is put at a place.
@@ -116,39 +97,23 @@ fn crc_byte(c: u16, b: u8) -> u16
     (x << 8) ^ (y << 12) ^ (y << 5) ^ y
 }
 
-// The register after the bytes of `s` from `at` on.
-fn by_bytes(c: u16, s: &[u8], at: usize) -> u16
-    ensures { result ≡ crc_from c (drop at s.now) }
+// The register after bytes.
+fn by_bytes(c: u16, s: &[u8]) -> u16
+    ensures { result ≡ crc_from c s.now }
 {
     let mut x = c;
-    let mut i = at;
-    while i < s.len() {
-        x = crc_byte(x, s[i]);
-        i += 1;
+    for b in s {
+        x = crc_byte(x, *b);
     }
     x
 }
 
-// A byte, with its bound for the sums.
-fn wide(x: u8) -> u64
-    ensures { (result ≡ x) × (result < 256) }
-{
-    x as u64
-}
-
-// The eight bytes from `i` on, the first highest. The last byte is added first: in this order the compiler makes one load and one byte swap.
+// The eight bytes from `i` on, the first highest.
 fn word(s: &[u8], i: usize) -> u64
     requires { i + 8 ≤ length s.now }
     ensures { (c : ℕ) → crc_from c (drop i s.now) ≡ crc_from (fed 8 c result) (drop (i + 8) s.now) }
 {
-    wide(s[i + 7])
-        + wide(s[i + 6]) * 256
-        + wide(s[i + 5]) * 65536
-        + wide(s[i + 4]) * 16777216
-        + wide(s[i + 3]) * 4294967296
-        + wide(s[i + 2]) * 1099511627776
-        + wide(s[i + 1]) * 281474976710656
-        + wide(s[i]) * 72057594037927936
+    bits::word(s, i)
 }
 
 // The quotient of a word followed by eight bytes 0, by the polynomial's 4th power.
@@ -178,21 +143,26 @@ fn next(w: u64, v: u64) -> u64
     q ^ (q << 20) ^ (q << 48) ^ v
 }
 
-// The register after `w` and the bytes of `s` from `at` on: eight bytes a turn, and the last one by one.
-fn by_words(w: u64, s: &[u8], at: usize) -> u16
-    requires { at ≤ length s.now }
-    ensures { result ≡ crc_from (fed 8 0 w) (drop at s.now) }
+// The register after `w` and the bytes of `s`: eight bytes a turn, and the last one by one.
+fn by_words(w: u64, s: &[u8]) -> u16
+    ensures { result ≡ crc_from (fed 8 0 w) s.now }
 {
     let mut v = w;
-    let mut i = at;
-    while 8 <= s.len() - i {
-        v = next(v, word(s, i));
-        i += 8;
+    let mut rest = s;
+    while let Some((bytes, more)) = rest.split_first_chunk::<WORD>() {
+        v = next(v, word(bytes, 0));
+        rest = more;
     }
-    by_bytes(register(v), s, i)
+    by_bytes(register(v), rest)
 }
 
-// Sixteen words, the first first.
+// The bytes of a word, and those of a turn: sixteen words.
+const WORD: usize = 8;
+
+const TURN: usize = 128;
+
+// Sixteen words, the first first. They are fields and not an array: a loop that puts the array a call answers into a variable again is not
+// covered by the check.
 #[derive(Clone, Copy)]
 struct Words {
     w0: u64,
@@ -237,28 +207,27 @@ fn step(x: Words, w: u64) -> Words
     }
 }
 
-// The sixteen words from `i` on.
-fn words_at(s: &[u8], i: usize) -> Words
-    requires { i + 128 ≤ length s.now }
-    ensures { (c : ℕ) → crc_from c (drop i s.now) ≡ crc_from (fed_all c (words_in result)) (drop (i + 128) s.now) }
+// The words of a turn's bytes.
+fn words_of(s: &[u8; TURN]) -> Words
+    ensures { (c : ℕ) → crc_from c s.now ≡ fed_all c (words_in result) }
 {
     Words {
-        w0: word(s, i),
-        w1: word(s, i + 8),
-        w2: word(s, i + 16),
-        w3: word(s, i + 24),
-        w4: word(s, i + 32),
-        w5: word(s, i + 40),
-        w6: word(s, i + 48),
-        w7: word(s, i + 56),
-        w8: word(s, i + 64),
-        w9: word(s, i + 72),
-        w10: word(s, i + 80),
-        w11: word(s, i + 88),
-        w12: word(s, i + 96),
-        w13: word(s, i + 104),
-        w14: word(s, i + 112),
-        w15: word(s, i + 120),
+        w0: word(s, 0),
+        w1: word(s, 8),
+        w2: word(s, 16),
+        w3: word(s, 24),
+        w4: word(s, 32),
+        w5: word(s, 40),
+        w6: word(s, 48),
+        w7: word(s, 56),
+        w8: word(s, 64),
+        w9: word(s, 72),
+        w10: word(s, 80),
+        w11: word(s, 88),
+        w12: word(s, 96),
+        w13: word(s, 104),
+        w14: word(s, 112),
+        w15: word(s, 120),
     }
 }
 
@@ -308,15 +277,12 @@ fn joined(x: Words) -> u64
 // The word after which the register, from 0, holds FFFF.
 const PRESET: u64 = 33999;
 
-// The bytes of a turn: sixteen words.
-const TURN: usize = 128;
-
 // The check of all bytes of `s`. Sixteen words stand for the bytes of all turns so far: from 0, they leave the register as those do from FFFF.
 pub fn crc(s: &[u8]) -> u16
     ensures { result ≡ crc_of s.now }
 {
     if s.len() < TURN {
-        return by_words(PRESET, s, 0);
+        return by_words(PRESET, s);
     }
     let mut x = Words {
         w0: 0,
@@ -336,10 +302,10 @@ pub fn crc(s: &[u8]) -> u16
         w14: 0,
         w15: PRESET,
     };
-    let mut i = 0;
-    while TURN <= s.len() - i {
-        x = turn(x, words_at(s, i));
-        i += TURN;
+    let mut rest = s;
+    while let Some((bytes, more)) = rest.split_first_chunk::<TURN>() {
+        x = turn(x, words_of(bytes));
+        rest = more;
     }
-    by_words(joined(x), s, i)
+    by_words(joined(x), rest)
 }

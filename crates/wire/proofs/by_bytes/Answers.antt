@@ -6,11 +6,11 @@ use Rattle.wire.specs.Check.{crc_from}
 use Rattle.wire.proofs.Laws.{from_more, from_done}
 use Rattle.wire.proofs.by_bytes.Goals as goal
 
-pub loop-i-preserved : goal.loop-i-preserved
-loop-i-preserved c = let l = c.loop-i in
+pub loop-b-preserved : goal.loop-b-preserved
+loop-b-preserved c = let l = c.loop-b in
     let s = c.args.s.now in
-    ap (λ (x : ℕ). crc_from x (drop (l.i + 1) s)) c.crc_byte-x.ensures ∙ sym (from_more l.x s l.i (omega arith)) ∙ l.invariant
+    ap (λ (x : ℕ). crc_from x (drop (l.b-index + 1) s)) c.crc_byte-x.ensures ∙ sym (from_more l.x s l.b-index (omega arith)) ∙ l.invariant
 
 pub returns : goal.returns
-returns c = let l = c.loop-i in
-    sym (from_done l.x c.args.s.now l.i (omega arith)) ∙ l.invariant
+returns c = let l = c.loop-b in
+    sym (from_done l.x c.args.s.now l.b-index (omega arith)) ∙ l.invariant

@@ -3,14 +3,10 @@ use mathlib.Core.Path.{◌∙◌}
 use mathlib.Core.List.{append_assoc}
 use Prim.Native.Nat.{◌+◌}
 use native.Mathlib.Numerals.{add-one}
-use native.Mathlib.Omega.{arith}
-use lib.ListN.{take, drop, length-set}
+use lib.ListN.{take, drop}
 use lib.Seq.{sets-eq}
 use Rattle.wire.specs.Numbers.{bytes_of}
 use Rattle.wire.proofs.put16.Goals as goal
-
-pub bounds-out-at-2 : goal.bounds-out-at-2
-bounds-out-at-2 c = simp length-set (omega arith)
 
 pub returns : goal.returns
 unfolding bytes_of

@@ -1,18 +1,8 @@
--- Each of the eight bytes comes behind those before it (`eight_bytes`).
+-- The word is the number of the eight bytes' bits, and goes into the register as these bytes do (`eight_bytes`).
 use native.Mathlib.Omega.{arith}
 use Rattle.wire.proofs.WordLaws.{eight_bytes}
 use Rattle.wire.proofs.word.Goals as goal
 
 pub returns : goal.returns
 returns c = let a = c.args in
-    λ k.
-    eight_bytes k a.s.now a.i
-    c.wide-8.ensures
-    c.wide-7.ensures
-    c.wide-6.ensures
-    c.wide-5.ensures
-    c.wide-4.ensures
-    c.wide-3.ensures
-    c.wide-2.ensures
-    c.wide.ensures
-    (omega arith)
+    λ k. rw c.word.ensures (eight_bytes k a.s.now a.i (λ j. omega (arith, c.type_inv.s j)) c.requires)
