@@ -17,11 +17,7 @@ pub fn put_bytes(part: &mut [u8], at: usize, bytes: &[u8])
     ensures { part.new
         ≡ take at part.old ++ (bytes.now ++ drop (at + length bytes.now) part.old) }
 {
-    let mut i = 0;
-    while i < bytes.len() {
-        part[at + i] = bytes[i];
-        i += 1;
-    }
+    part[at..at + bytes.len()].copy_from_slice(bytes);
 }
 
 // The check over all that follows it.
@@ -67,10 +63,7 @@ pub fn put_spare(part: &mut [u8], end: usize)
     requires { (end ≤ length part.old) × (length part.old ≤ end + 1) }
     ensures { part.new ≡ take end part.old ++ replicate (length part.old - end) 0 }
 {
-    if part.len() <= end {
-        return;
-    }
-    part[end] = 0;
+    part[end..].fill(0);
 }
 
 // Section 1 or 2, of the data that it is given.
@@ -83,12 +76,13 @@ pub fn write_section(part: &mut [u8], id: usize, version: u8, contents: &[u8])
     seal(part, id, version);
 }
 
-// A pointer is put at a place.
-fn put_pointer(part: &mut [u8], at: usize, id: usize, size: usize, index: usize)
-    requires { at + 10 ≤ length part.old }
-    ensures { part.new
-        ≡ take at part.old ++ (pointer_bytes id size index ++ drop (at + 10) part.old) }
+// The pointer of a section is put at its place.
+fn put_pointer(part: &mut [u8], id: usize, size: usize, index: usize)
+    requires { 26 + 10 * id ≤ length part.old }
+    ensures { let at = 16 + 10 * id in
+        part.new ≡ take at part.old ++ (pointer_bytes id size index ++ drop (at + 10) part.old) }
 {
+    let at = 16 + 10 * id;
     wire::put16(part, at, id);
     wire::put32(part, at + 2, size);
     wire::put32(part, at + 6, index);
@@ -100,10 +94,8 @@ fn put_absent(part: &mut [u8], from: usize, to: usize)
     ensures { part.new
         ≡ take (16 + 10 * from) part.old ++ (absents from (to - from) ++ drop (16 + 10 * to) part.old) }
 {
-    let mut id = from;
-    while id < to {
-        put_pointer(part, 16 + 10 * id, id, 0, 0);
-        id += 1;
+    for id in from..to {
+        put_pointer(part, id, 0, 0);
     }
 }
 
@@ -119,12 +111,12 @@ fn put_pointers(part: &mut [u8], size1: usize, size2: usize, size3: usize, size6
     requires { (length part.old ≡ 136) × (143 + size1 + size2 + size3 < 4294967296) }
     ensures { part.new ≡ take 16 part.old ++ pointers_data size1 size2 size3 size6 }
 {
-    put_pointer(part, 16, 0, 136, 7);
-    put_pointer(part, 26, 1, size1, 143);
-    put_pointer(part, 36, 2, size2, index_if(size2, 143 + size1));
-    put_pointer(part, 46, 3, size3, 143 + size1 + size2);
+    put_pointer(part, 0, 136, 7);
+    put_pointer(part, 1, size1, 143);
+    put_pointer(part, 2, size2, index_if(size2, 143 + size1));
+    put_pointer(part, 3, size3, 143 + size1 + size2);
     put_absent(part, 4, 6);
-    put_pointer(part, 76, 6, size6, 143 + size1 + size2 + size3);
+    put_pointer(part, 6, size6, 143 + size1 + size2 + size3);
     put_absent(part, 7, 12);
 }
 
@@ -154,7 +146,7 @@ fn put_entry(part: &mut [u8], at: usize, first: u32, count: u32, id: u8)
     part[at + 8] = id;
 }
 
-// The entries of all leads, behind the flags.
+// The entries of all leads, behind the flags. The three arrays are as the C interface lends them, and one place serves all of them.
 fn put_entries(part: &mut [u8], firsts: &[u32], counts: &[u32], ids: &[u8])
     requires firsts_len { (length firsts.now ≡ length counts.now) × (length ids.now ≡ length counts.now)
         × (18 + 9 * length counts.now ≤ length part.old) }
@@ -163,10 +155,8 @@ fn put_entries(part: &mut [u8], firsts: &[u32], counts: &[u32], ids: &[u8])
         ≡ take 18 part.old ++ (entries_of firsts.now counts.now ids.now
         ++ drop (18 + 9 * length counts.now) part.old) }
 {
-    let mut k = 0;
-    while k < counts.len() {
+    for k in 0..counts.len() {
         put_entry(part, 18 + 9 * k, firsts[k], counts[k], ids[k]);
-        k += 1;
     }
 }
 
@@ -199,10 +189,8 @@ fn put_counts(part: &mut [u8], bytes: &[u32])
         ≡ take 22 part.old ++ (byte_counts bytes.now
         ++ drop (22 + 2 * length bytes.now) part.old) }
 {
-    let mut k = 0;
-    while k < bytes.len() {
-        wire::put16(part, 22 + 2 * k, bytes[k] as usize);
-        k += 1;
+    for (k, count) in bytes.iter().enumerate() {
+        wire::put16(part, 22 + 2 * k, *count as usize);
     }
 }
 

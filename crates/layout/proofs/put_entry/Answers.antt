@@ -3,13 +3,9 @@ use Prim.Native.Nat.{◌+◌, ◌-◌}
 use mathlib.Core.Path.{refl, ◌∙◌}
 use mathlib.Core.List.{append_assoc}
 use native.Mathlib.Omega.{arith}
-use lib.ListN.{length-set}
 use Rattle.layout.specs.InnerLeads.{entry_bytes}
 use Rattle.layout.proofs.Filled.{filled_from, filled_number, filled_store}
 use Rattle.layout.proofs.put_entry.Goals as goal
-
-pub shape_of-part : goal.shape_of-part
-shape_of-part c = simp length-set (omega arith)
 
 pub returns : goal.returns
 unfolding entry_bytes

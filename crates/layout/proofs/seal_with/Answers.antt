@@ -1,29 +1,11 @@
 -- The header's parts are put one after another, from the ID on, and the check is over them and all that follows.
-use mathlib.Core.Path.{◌≡◌, refl, ap, ◌∙◌}
+use mathlib.Core.Path.{refl, ap, ◌∙◌}
 use mathlib.Core.List.{append_assoc}
 use native.Mathlib.Omega.{arith}
 use lib.ListN.{length, length-set}
 use Rattle.layout.specs.Layout.{checked}
 use Rattle.layout.proofs.Filled.{filled_from, filled_put, filled_number, filled_store, filled_behind}
 use Rattle.layout.proofs.seal_with.Goals as goal
-
-pub bounds-part-9 : goal.bounds-part-9
-bounds-part-9 c = simp length-set (omega arith)
-
-pub put_bytes-requires : goal.put_bytes-requires
-put_bytes-requires c = simp length-set (omega arith)
-
-pub put_check-requires : goal.put_check-requires
-put_check-requires c =
-    let c = c in
-    let same : length c.put_bytes.new.part ≡ length c.put32.new.out = c.put_bytes.auto.part ∙ simp length-set in
-    omega arith
-
-pub shape_of-part : goal.shape_of-part
-shape_of-part c =
-    let c = c in
-    let same : length c.put_bytes.new.part ≡ length c.put32.new.out = c.put_bytes.auto.part ∙ simp length-set in
-    omega arith
 
 pub returns : goal.returns
 returns c =

@@ -8,31 +8,6 @@ use Rattle.layout.proofs.Filled.{filled_from, filled_put, filled_store}
 use Rattle.layout.proofs.Laws.{spare_put, length_entries_of, length_leads_data}
 use Rattle.layout.proofs.write_leads.Goals as goal
 
-pub bounds-part-17 : goal.bounds-part-17
-bounds-part-17 c = simp length-set (omega arith)
-
-pub put_entries-requires : goal.put_entries-requires
-put_entries-requires c = let pre = c.requires in
-    record { firsts_len = (pre.firsts_len.0, pre.firsts_len.1, simp length-set (omega arith)); by_index = pre.by_index }
-
-pub put_spare-requires : goal.put_spare-requires
-put_spare-requires c =
-    let l = c.args.part.now in
-    let same : length c.put_entries.new.part ≡ length l = c.put_entries.auto.part ∙ simp length-set in
-    (omega arith, omega arith)
-
-pub seal-requires : goal.seal-requires
-seal-requires c =
-    let l = c.args.part.now in
-    let same : length c.put_entries.new.part ≡ length l = c.put_entries.auto.part ∙ simp length-set in
-    omega arith
-
-pub shape_of-part : goal.shape_of-part
-shape_of-part c =
-    let l = c.args.part.now in
-    let same : length c.put_entries.new.part ≡ length l = c.put_entries.auto.part ∙ simp length-set in
-    omega arith
-
 pub returns : goal.returns
 unfolding leads_data
 returns c =

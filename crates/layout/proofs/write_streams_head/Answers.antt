@@ -1,6 +1,6 @@
 -- Step, interval, difference order, bimodal and the byte counts are put one after another.
 use Prim.Native.Nat.{◌+◌, ◌*◌}
-use mathlib.Core.Path.{◌≡◌, refl, ◌∙◌}
+use mathlib.Core.Path.{refl, ◌∙◌}
 use mathlib.Core.List.{append_assoc}
 use native.Mathlib.Omega.{arith}
 use lib.ListN.{length, length-set}
@@ -8,18 +8,6 @@ use Rattle.layout.specs.InnerCounts.{byte_counts}
 use Rattle.layout.proofs.Filled.{filled_from, filled_put, filled_number, filled_store}
 use Rattle.layout.proofs.Laws.{length_byte_counts}
 use Rattle.layout.proofs.write_streams_head.Goals as goal
-
-pub bounds-part-21 : goal.bounds-part-21
-bounds-part-21 c = simp length-set (omega arith)
-
-pub put_counts-requires : goal.put_counts-requires
-put_counts-requires c = simp length-set (omega arith)
-
-pub shape_of-part : goal.shape_of-part
-shape_of-part c =
-    let c = c in
-    let same : length c.put_counts.new.part ≡ length c.put16-2.new.out = c.put_counts.auto.part ∙ simp length-set in
-    omega arith
 
 pub returns : goal.returns
 returns c =
