@@ -1,8 +1,9 @@
 -- Zones and the samples that they hold, and the beat added to samples. Assumes nothing.
 use Prim.Native.Nat.{ℕ, zero, suc, ◌+◌, ◌-◌, ◌*◌, ◌≤◌, ◌<◌}
-use mathlib.Core.Path.{◌≡◌, refl, ap, ◌∙◌}
+use mathlib.Core.Path.{◌≡◌, refl, sym, ap, subst, ◌∙◌}
 use mathlib.Core.Bool.{Bool, true, false, cond, and-false, and-eq-true_iff}
 use mathlib.Core.List.{List, [], ◌∷◌}
+use native.Mathlib.Nat.{add-zero}
 use native.Mathlib.Numerals.{add-one}
 use native.Mathlib.Omega.{arith}
 use borrow.Author.Tests.{leb-true, ltb-true, eqb-true, eqb-false, le-leb, lt-leb, eq-eqb, ne_eqb}
@@ -10,11 +11,14 @@ use lib.Dec.{leb, ltb, eqb}
 use lib.IntN.{ℤ, pos, ◌+ℤ◌}
 use lib.ListN.{length, get_or, drop, drop_of_length-le}
 use lib.Seq.{drop-cons}
+use Rattle.std.specs.Prelude.{Option, None, Some, MatchOption, unwrap_or}
+use Rattle.std.specs.List.{range_with_len, AllWithin, HoldsAt}
+use Rattle.std.proofs.lemmas.List.FromFn.{get_or-range_with_len, length-range_with_len}
 use Rattle.wire.proofs.Laws.{all_at, unlike}
 use Rattle.entries.specs.Section4.{fiducial_of, qrs_count, qrs_type, zone_begin, qrs_fiducial, zone_end, last_before, zone_right, section4_right}
 use Rattle.samples.specs.Trace.{Trace, rebuilt, fault, fits16, behind, after_sample}
 use Rattle.beats.specs.Sums.{in_zone, beat_place_from, beat_place, beat_value_at, add_beat}
-use Rattle.beats.specs.InnerZones.{Alike}
+use Rattle.beats.specs.InnerZones.{Reaches, Alike}
 
 -- what Section 4's rule says of its zones
 pub record RightBeat (samples : ℕ) (s : List ℕ) : Type 0 where
@@ -76,13 +80,51 @@ module _ (s : List ℕ) (k n : ℕ) where
   unfolding in_zone
   miss_end h = simp (lt-leb n (zone_end s k) h, and-false)
 
--- a zone that holds no sample from n on is passed over
-pub alike_more : (s : List ℕ) (zones k j n : ℕ) → j < zones → ((m : ℕ) → n ≤ m → in_zone s j m ≡ false)
+-- zone j holds no sample from n on
+abbrev Misses : List ℕ → ℕ → ℕ → Type 0
+Misses s n j = (m : ℕ) → n ≤ m → in_zone s j m ≡ false
+
+-- it is passed over
+pub alike_more : (s : List ℕ) (zones k j n : ℕ) → j < zones → Misses s n j
     → Alike s zones k j n → Alike s zones k (j + 1) n
 unfolding beat_place_from
 alike_more s zones k j n h miss alike m g =
     let e : zones - j ≡ suc (zones - (j + 1)) = omega arith in
     alike m g ∙ rw (e, miss m g)
+
+-- nor do several of them, one after the other
+alike_over : (s : List ℕ) (zones k n d : ℕ) → k + d ≤ zones → ((i : ℕ) → i < d → Misses s n (k + i)) → Alike s zones k (k + d) n
+alike_over s zones k n zero l miss = λ m g. rw add-zero
+alike_over s zones k n (suc d) l miss =
+    let e : k + d + 1 ≡ k + suc d = omega arith in
+    let rest = alike_over s zones k n d (omega arith) (λ i h. miss i (omega arith)) in
+    subst (λ j. Alike s zones k j n) e (alike_more s zones k (k + d) n (omega arith) (miss d (omega arith)) rest)
+
+-- the first zone from k on that reaches sample n, or none
+pub zone_found : (s : List ℕ) (zones k n : ℕ) (o : Option ℕ) → k ≤ zones
+    → MatchOption o (AllWithin (Misses s n) (range_with_len k (zones - k)) 0 (length (range_with_len k (zones - k))))
+    (λ j. ((qrs_type s j ≡ 0) × (n ≤ zone_end s j)) × (i : ℕ) × (i < length (range_with_len k (zones - k)))
+    × HoldsAt (λ y. y ≡ j) (range_with_len k (zones - k)) i × AllWithin (Misses s n) (range_with_len k (zones - k)) 0 i)
+    → (unwrap_or o zones ≤ zones) × Alike s zones k (unwrap_or o zones) n × Reaches s zones (unwrap_or o zones) n
+zone_found s zones k n o l found = go o found
+  where
+    nth : (i : ℕ) → i < zones - k → get_or (range_with_len k (zones - k)) i 0 ≡ k + i
+    nth i h = get_or-range_with_len k (zones - k) i 0 h
+
+    go : (o : Option ℕ) → MatchOption o (AllWithin (Misses s n) (range_with_len k (zones - k)) 0 (length (range_with_len k (zones - k))))
+        (λ j. ((qrs_type s j ≡ 0) × (n ≤ zone_end s j)) × (i : ℕ) × (i < length (range_with_len k (zones - k)))
+        × HoldsAt (λ y. y ≡ j) (range_with_len k (zones - k)) i × AllWithin (Misses s n) (range_with_len k (zones - k)) 0 i)
+        → (unwrap_or o zones ≤ zones) × Alike s zones k (unwrap_or o zones) n × Reaches s zones (unwrap_or o zones) n
+    go None none =
+        let long = length-range_with_len k (zones - k) in
+        let e : k + (zones - k) ≡ zones = omega arith in
+        let miss : (i : ℕ) → i < zones - k → Misses s n (k + i) = λ i h. subst (Misses s n) (nth i h) (none i 0 (omega arith) (omega arith)) in
+        (omega arith, subst (λ j. Alike s zones k j n) e (alike_over s zones k n (zones - k) (omega arith) miss), λ h. absurd (omega arith))
+    go (Some j) (hit, i, h, here, before) =
+        let long = length-range_with_len k (zones - k) in
+        let e : k + i ≡ j = sym (nth i (omega arith)) ∙ here 0 in
+        let miss : (d : ℕ) → d < i → Misses s n (k + d) = λ d g. subst (Misses s n) (nth d (omega arith)) (before d 0 (omega arith) g) in
+        (omega arith, subst (λ j. Alike s zones k j n) e (alike_over s zones k n i (omega arith) miss), λ g. hit)
 
 -- where no zone is left, no sample of the beat is
 pub place_end : (s : List ℕ) (zones k n : ℕ) → zones ≤ k → beat_place_from s (zones - k) k n ≡ 0

@@ -1,21 +1,25 @@
 -- How far adding the beat has come, and its next turn. Assumes nothing.
 use Prim.Native.Nat.{ℕ, ◌+◌, ◌-◌, ◌≤◌, ◌<◌}
 use mathlib.Core.Path.{◌≡◌, refl, sym, ap, ap₂, ◌∙◌}
-use mathlib.Core.Bool.{true, false, and-false}
+use mathlib.Core.Bool.{true, false}
 use mathlib.Core.List.{List, [], ◌∷◌, ◌++◌, append-nil}
 use native.Mathlib.Nat.{add-zero}
 use native.Mathlib.Numerals.{add-one}
 use native.Mathlib.Omega.{arith}
-use borrow.Author.Tests.{le-leb, lt-leb, lt-ltb, le-ltb}
-use lib.IntN.{ℤ, pos, ◌+ℤ◌}
+use native.Mathlib.Decide.{dec_lt}
+use borrow.Author.Tests.{lt-ltb, le-ltb}
+use lib.IntN.{ℤ, pos, negsuc, ◌+ℤ◌}
 use lib.ListN.{length, get_or, take, drop, set, length-set}
 use lib.Seq.{take_all, take-suc-set, get_or-set_other}
-use Rattle.bits.specs.InnerRaised.{from_zero}
-use Rattle.bits.proofs.Raised.{lower_plus, lower_same}
+use mir.Syntax.{w16}
+use Rattle.std.specs.Prelude.{FitsSigned, Option, None, Some, Ok, Err, SomeIff}
+use Rattle.std.specs.Option.{ok_or}
+use Rattle.refusals.specs.declared.Refusal.{Refusal}
+use Rattle.wire.proofs.Laws.{unlike}
 use Rattle.entries.specs.Section4.{qrs_count}
 use Rattle.samples.specs.Trace.{rebuilt, fault, fits16}
 use Rattle.samples.specs.InnerTrace.{before}
-use Rattle.samples.proofs.Laws.{before_none, before_more, fits_lower}
+use Rattle.samples.proofs.Laws.{before_none, before_more}
 use Rattle.beats.specs.Sums.{beat_place_from, beat_place, beat_value_at, add_beat}
 use Rattle.beats.specs.InnerZones.{Alike}
 use Rattle.beats.proofs.Laws.{add_more, add_fault, add_end}
@@ -51,46 +55,55 @@ reached_all {s} {beat} {first} {xs} {zones} {room} {k} {i} r h =
     let long = r.long in
     sym (r.whole ∙ rw (add_end s beat (first + i) xs i h, take_all i room (omega arith)) (ap rebuilt (append-nil room)))
 
--- sample i is held as x, and what it gets as b, from zone `next` on
-pub record Turn (s : List ℕ) (beat : List ℤ) (first : ℕ) (xs : List ℤ) (zones : ℕ) (room : List ℤ) (k i next x b : ℕ) : Type 0 where
+at_least : (n : ℕ) → (n < 32768 → ⊥) → 32768 ≤ n
+at_least n h = go (dec_lt n 32768)
+  where
+    go : Dec (n < 32768) → 32768 ≤ n
+    go (yes l) = absurd (h l)
+    go (no l) = omega arith
+
+-- a whole number of 16 bits
+fits_true : (z : ℤ) → FitsSigned w16 z → fits16 z ≡ true
+unfolding fits16
+fits_true (pos n) h = lt-ltb n 32768 (omega arith)
+fits_true (negsuc n) h = lt-ltb n 32768 (omega arith)
+
+fits_false : (z : ℤ) → (FitsSigned w16 z → ⊥) → fits16 z ≡ false
+unfolding fits16
+fits_false (pos n) h = le-ltb n 32768 (at_least n (λ l. h (record { sfits = l })))
+fits_false (negsuc n) h = le-ltb n 32768 (at_least n (λ l. h (record { sfits = l })))
+
+-- sample i gets b, from zone `next` on
+pub record Turn (s : List ℕ) (beat : List ℤ) (first : ℕ) (xs : List ℤ) (zones : ℕ) (room : List ℤ) (k i next : ℕ) (b : ℤ) : Type 0 where
   pub reached : Reached s beat first xs zones room k i
   pub some : i < length xs
   pub zone : next ≤ zones
   pub alike : Alike s zones k next (first + i)
-  pub own : from_zero 32768 x ≡ get_or room i (pos 0)
-  pub added : from_zero 32768 b ≡ beat_value_at beat (beat_place_from s (zones - next) next (first + i))
+  pub added : b ≡ beat_value_at beat (beat_place_from s (zones - next) next (first + i))
 
-module _ {s : List ℕ} {beat : List ℤ} {first : ℕ} {xs : List ℤ} {zones : ℕ} {room : List ℤ} {k i next x b : ℕ}
-    (t : Turn s beat first xs zones room k i next x b) where
-  turn_sum : get_or xs i (pos 0) +ℤ beat_value_at beat (beat_place s (first + i)) ≡ from_zero 65536 (x + b)
+module _ {s : List ℕ} {beat : List ℤ} {first : ℕ} {xs : List ℤ} {zones : ℕ} {room : List ℤ} {k i next : ℕ} {b : ℤ}
+    (t : Turn s beat first xs zones room k i next b) where
+  turn_sum : get_or xs i (pos 0) +ℤ beat_value_at beat (beat_place s (first + i)) ≡ get_or room i (pos 0) +ℤ b
   turn_sum =
       let r = t.reached in
       let place = r.places (first + i) (omega arith) ∙ t.alike (first + i) (omega arith) in
-      ap₂ ◌+ℤ◌ (sym (t.own ∙ r.rest i (omega arith))) (ap (beat_value_at beat) place ∙ sym t.added) ∙ lower_plus 32768 x 32768 b
+      ap₂ ◌+ℤ◌ (sym (r.rest i (omega arith))) (ap (beat_value_at beat) place ∙ sym t.added)
 
-  turn_fault : fits16 (from_zero 65536 (x + b)) ≡ false → fault 13 ≡ add_beat s beat first xs
+  -- the sum is outside 16 bits
+  pub turn_fault : (FitsSigned w16 (get_or room i (pos 0) +ℤ b) → ⊥) → fault 13 ≡ add_beat s beat first xs
   turn_fault f =
-      sym (t.reached.whole ∙ ap (before (take i room)) (add_fault s beat (first + i) xs i t.some (from_zero 65536 (x + b)) turn_sum f))
-
-  -- the sum is below 16 bits
-  pub turn_low : x + b < 32768 → fault 13 ≡ add_beat s beat first xs
-  turn_low h = turn_fault (fits_lower 65536 (x + b) (omega arith) ∙ simp (lt-leb 32768 (x + b) h))
-
-  -- or above
-  pub turn_high : 98304 ≤ x + b → fault 13 ≡ add_beat s beat first xs
-  turn_high h = turn_fault (fits_lower 65536 (x + b) (omega arith) ∙ simp (le-ltb (x + b) 98304 h, and-false))
+      let z = get_or room i (pos 0) +ℤ b in
+      sym (t.reached.whole ∙ ap (before (take i room)) (add_fault s beat (first + i) xs i t.some z turn_sum (fits_false z f)))
 
   -- or within, and is stored
-  pub turn_more : (z : ℤ) → 32768 ≤ x + b → x + b < 98304 → z ≡ from_zero 32768 (x + b - 32768)
+  pub turn_more : (z : ℤ) → FitsSigned w16 (get_or room i (pos 0) +ℤ b) → z ≡ get_or room i (pos 0) +ℤ b
       → Reached s beat first xs zones (set room i z) next (i + 1)
-  turn_more z h g e =
+  turn_more z f e =
       let r = t.reached in
       let long = r.long in
       let some = t.some in
-      let sum = from_zero 65536 (x + b) in
-      let same : sum ≡ z = lower_same 65536 (x + b) 32768 (x + b - 32768) (omega arith) ∙ sym e in
-      let fits : fits16 sum ≡ true = fits_lower 65536 (x + b) (omega arith) ∙ simp (le-leb 32768 (x + b) h, lt-ltb (x + b) 98304 g) in
-      let more = add_more s beat (first + i) xs i some z (turn_sum ∙ same) (rw same at fits) in
+      let fits : fits16 z ≡ true = rw e (fits_true (get_or room i (pos 0) +ℤ b) f) in
+      let more = add_more s beat (first + i) xs i some z (turn_sum ∙ sym e) fits in
       let place : first + i + 1 ≡ first + (i + 1) = omega arith in
       let stored : take i room ++ (z ∷ []) ≡ take (i + 1) (set room i z) = rw (add-one i) (sym (take-suc-set room i z (omega arith))) in
       record {
@@ -103,3 +116,12 @@ module _ {s : List ℕ} {beat : List ℤ} {first : ℕ} {xs : List ℤ} {zones :
             r.whole ∙ ap (before (take i room)) more ∙ before_more (take i room) z (add_beat s beat (first + i + 1) (drop (i + 1) xs))
             ∙ ap₂ before stored (ap (λ (m : ℕ). add_beat s beat m (drop (i + 1) xs)) place);
       }
+
+-- a sum that was asked for: there where P holds, and refused where not
+pub sum_there : {P : Type 0} {v : ℤ} (o : Option ℤ) (x : ℤ) (e : Refusal) → SomeIff o P v → ok_or o e ≡ Ok x → P × (x ≡ v)
+sum_there None x e s h = unlike cc
+sum_there (Some y) x e s h = (s.0, cc)
+
+pub sum_missing : {P : Type 0} (v : ℤ) (o : Option ℤ) (r e : Refusal) → SomeIff o P v → ok_or o e ≡ Err r → P → ⊥
+sum_missing v None r e s h = s
+sum_missing v (Some y) r e s h = unlike cc

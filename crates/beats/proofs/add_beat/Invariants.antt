@@ -1,10 +1,6 @@
 -- At every turn the samples so far have the beat, and those after them ask from the zone that is reached.
-use Prim.Native.Nat.{◌-◌}
 use Rattle.beats.proofs.Turns.{Reached}
 use Rattle.beats.proofs.add_beat.Given as goal
 
 abbrev pub invariant-loop-i : goal.invariant-loop-i
 invariant-loop-i l = Reached l.s l.beat l.first l.initial.room l.zones l.room l.k l.i
-
-abbrev pub decreases-loop-i : goal.decreases-loop-i
-decreases-loop-i l = l.n - l.i

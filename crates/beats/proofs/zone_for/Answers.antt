@@ -1,21 +1,17 @@
-use mathlib.Core.Path.{refl}
-use native.Mathlib.Omega.{arith}
-use Rattle.beats.proofs.Laws.{alike_more}
+use Prim.Native.Nat.{ℕ, ◌-◌, ◌≤◌}
+use mathlib.Core.Path.{◌≡◌, refl}
+use mathlib.Core.Bool.{false}
+use borrow.Author.Rules.{rules}
+use borrow.Author.Tests.{tests}
+use Rattle.std.proofs.lemmas.Iterator.{YieldsList-from_range, first_from_find}
+use Rattle.entries.specs.Section4.{qrs_type, zone_end}
+use Rattle.beats.specs.Sums.{in_zone}
+use Rattle.beats.proofs.Laws.{zone_found}
 use Rattle.beats.proofs.zone_for.Goals as goal
 
-pub loop-j-init : goal.loop-j-init
-loop-j-init c = (c.requires.1, λ m g. refl)
-
-pub returns-then-reaches : goal.returns-then-reaches
-returns-then-reaches c = let l = c.loop-j in
-    (l.invariant.0, l.invariant.1, λ h. c.reaches.ensures.0 c.if-reaches.true)
-
-pub loop-j-preserved : goal.loop-j-preserved
-loop-j-preserved c = let l = c.loop-j in
-    let a = c.args in
-    let h = c.loop-j-test.true in
-    let miss = c.reaches.ensures.1 c.if-reaches.false in
-    (omega arith, alike_more a.s.now a.zones a.k l.j a.n h miss l.invariant.1)
-
 pub returns : goal.returns
-returns c = let l = c.loop-j in (l.invariant.0, l.invariant.1, λ h. absurd (omega arith))
+returns c =
+    let a = c.args in
+    let s = a.s.now in
+    let first = first_from_find _ _ c.find.result (λ j. (qrs_type s j ≡ 0) × (a.n ≤ zone_end s j)) (λ j. (m : ℕ) → a.n ≤ m → in_zone s j m ≡ false) c.find.ensures.ran (YieldsList-from_range a.k a.zones (a.zones - a.k) refl refl) (λ x q k. search (rules, tests)) (λ x q k. search (rules, tests)) in
+    rw c.unwrap_or.ensures (zone_found s a.zones a.k a.n c.find.result c.requires first)
