@@ -92,19 +92,16 @@ pub sum_end : (tables : List (List Structure)) (left table : ℕ) (bs : List ℕ
 unfolding compared_from
 sum_end tables left table bs {compared} none e = sym (add-zero compared) ∙ rw none at e
 
--- all samples are there
-module _ (tables : List (List Structure)) (order left j : ℕ) (last other : ℤ) (table : ℕ) (bs : List ℕ) (none : left ≡ 0)
-    (room : List ℤ) where
-  -- no more bits are left over than may be
-  pub room_end : length bs ≤ most_left_over → length room ≤ j
-      → rebuilt room ≡ before (take j room) (rebuild_from tables order left j last other table bs)
-  unfolding rebuild_from
-  room_end h g = rw (none, le-leb (length bs) most_left_over h, append-nil (take j room), take_all j room g)
-
-  -- more are left over
-  pub room_over : most_left_over < length bs → fault 14 ≡ before (take j room) (rebuild_from tables order left j last other table bs)
-  unfolding rebuild_from
-  room_over h = rw (none, lt-leb (length bs) most_left_over h)
+-- all samples are there: no more bits are left over than may be, or that is the refusal
+pub room_end : (tables : List (List Structure)) (order left j : ℕ) (last other : ℤ) (table : ℕ) (bs : List ℕ) → left ≡ 0
+    → (room : List ℤ) → length room ≤ j → (number : ℕ) → number ≡ cond (leb (length bs) most_left_over) 0 14
+    → trace_of number room ≡ before (take j room) (rebuild_from tables order left j last other table bs)
+unfolding rebuild_from
+room_end tables order left j last other table bs none room g number e = rw (none, e) (go (leb (length bs) most_left_over))
+  where
+    go : (b : Bool) → trace_of (cond b 0 14) room ≡ before (take j room) (cond b (rebuilt []) (fault 14))
+    go true = rw (append-nil (take j room), take_all j room g)
+    go false = refl
 
 -- ---- how many samples there are
 

@@ -2,8 +2,9 @@
 // contents count only where nothing was refused. The structures compared are summed up (Q-6).
 #![tactic(auto)]
 
-ghost use Rattle.std.specs.Prelude.{◌≡◌, List, ℕ, suc, ◌+◌, ◌*◌, ◌<◌, ◌≤◌, length, drop};
+ghost use Rattle.std.specs.Prelude.{IfOk, ◌≡◌, List, ℕ, suc, ◌+◌, ◌*◌, ◌<◌, ◌≤◌, length, drop};
 ghost use Rattle.wire.specs.Bounds.{most_structures};
+ghost use Rattle.refusals.specs.Refusals.{refusal_in};
 ghost use Rattle.bits.specs.Bits.{bits_in};
 ghost use Rattle.bits.specs.InnerRaised.{sample_zero, from_zero};
 ghost use Rattle.samples.specs.InnerTrace.{trace_of};
@@ -14,27 +15,14 @@ ghost use Rattle.reading.specs.InnerCursor.{Within};
 ghost use Rattle.traces.specs.Rebuilding.{rebuild_from, rebuild};
 ghost use Rattle.traces.specs.InnerTrace.{trace_from, SampledWithin, SampledSum};
 
-use reading::{Cursor, Read};
-
-// The answer of a step: a sample, 32,768 added, and the cursor behind its code; or the number of the fault met.
-#[derive(Clone, Copy)]
-pub enum Sampled {
-    Sample(usize, Cursor),
-    Fault(u8),
-}
-
-// The end of rebuilding: 0, or the number of the first fault met; and, where it is 0, how many structures were compared.
-#[derive(Clone, Copy)]
-pub struct Rebuilt {
-    pub fault: u8,
-    pub compared: usize,
-}
+use reading::Cursor;
+use refusals::Refusal;
 
 // At most this many bits left over behind the last sample are ignored (01, Refusal numbers, row 14; Q-1): some carts pad a lead to an
 // even number of bytes.
 const MOST_LEFT_OVER: usize = 15;
 
-// The sample at a place, behind the samples `last` and `other`: 12 where there is no value, 13 where it is outside 16 bits.
+// The sample at a place, behind the samples `last` and `other`, 32,768 added, and the cursor behind its code.
 fn next_sample(
     c: Cursor,
     s: &[u8],
@@ -43,7 +31,7 @@ fn next_sample(
     place: usize,
     last: usize,
     other: usize,
-) -> Sampled
+) -> Result<(usize, Cursor), Refusal>
     requires { CompiledSomeOrNone tab.now × (length s.now ≤ 1048576) × (last < 65536) × (other < 65536) × Within (length s.now * 8) c }
     ensures told { (tables : List (List Structure)) (left : ℕ) → CompiledOrNone tables tab.now
         → trace_from (bits_in s.now) (λ x. rebuild_from tables order left (place + 1) x (from_zero sample_zero last)) result
@@ -54,59 +42,34 @@ fn next_sample(
         → SampledSum (λ d. d.compared + compared_from tables left d.table (drop d.at (bits_in s.now)))
         (c.compared + compared_from tables (suc left) c.table (drop c.at (bits_in s.now))) result }
 {
-    match c.value(s, tab) {
-        Read::Value(v, d) => {
-            let y = samples::sample_of(order, place, v, last, other);
-            if y < 196608 {
-                return Sampled::Fault(13);
-            }
-            if 262144 <= y {
-                return Sampled::Fault(13);
-            }
-            Sampled::Sample(y - 196608, d)
-        }
-        Read::Stuck => Sampled::Fault(12),
+    let (v, d) = c.value(s, tab).ok_or(Refusal::NoValue)?;
+    let y = samples::sample_of(order, place, v, last, other);
+    if y < 196608 || 262144 <= y {
+        return Err(Refusal::OutOfRange);
     }
+    Ok((y - 196608, d))
 }
 
-// The room is filled with the samples that a stream is rebuilt to.
-pub fn rebuild(s: &[u8], tab: &[u32], order: usize, room: &mut [i16]) -> Rebuilt
+// The room is filled with the samples that a stream is rebuilt to. Answered is how many structures were compared.
+pub fn rebuild(s: &[u8], tab: &[u32], order: usize, room: &mut [i16]) -> Result<usize, Refusal>
     requires { CompiledSomeOrNone tab.now × (length s.now ≤ 1048576) }
     ensures traced { ((tables : List (List Structure)) → CompiledOrNone tables tab.now
-        → trace_of result.fault room.new ≡ rebuild tables order (length room.old) (bits_in s.now))
+        → trace_of (refusal_in result) room.new ≡ rebuild tables order (length room.old) (bits_in s.now))
         × (length room.new ≡ length room.old) }
-    ensures summed { ((tables : List (List Structure)) → CompiledOrNone tables tab.now → result.fault ≡ 0
-        → result.compared ≡ compared_of tables (length room.old) (bits_in s.now))
-        × (result.compared ≤ most_structures * (length s.now * 8)) }
+    ensures summed { IfOk result (λ compared. ((tables : List (List Structure)) → CompiledOrNone tables tab.now
+        → compared ≡ compared_of tables (length room.old) (bits_in s.now))
+        × (compared ≤ most_structures * (length s.now * 8))) }
 {
-    let n = room.len();
     let mut c = Cursor::new();
     let mut last = bits::SAMPLE_ZERO;
     let mut other = bits::SAMPLE_ZERO;
-    let mut j = 0;
-    while j < n {
-        match next_sample(c, s, tab, order, j, last, other) {
-            Sampled::Sample(x, d) => {
-                room[j] = samples::lowered(x);
-                other = last;
-                last = x;
-                c = d;
-                j += 1;
-            }
-            Sampled::Fault(number) => {
-                return Rebuilt {
-                    fault: number,
-                    compared: c.compared,
-                };
-            }
-        }
+    for (j, sample) in room.iter_mut().enumerate() {
+        let (x, d) = next_sample(c, s, tab, order, j, last, other)?;
+        *sample = samples::lowered(x);
+        other = last;
+        last = x;
+        c = d;
     }
-    let compared = c.compared;
-    if s.len() * 8 - c.at <= MOST_LEFT_OVER {
-        return Rebuilt { fault: 0, compared };
-    }
-    Rebuilt {
-        fault: 14,
-        compared,
-    }
+    Refusal::LeftOver.unless(s.len() * 8 - c.at <= MOST_LEFT_OVER)?;
+    Ok(c.compared)
 }

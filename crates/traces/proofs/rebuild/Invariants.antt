@@ -1,5 +1,5 @@
 -- The stream is rebuilt to the samples that are in the room, before what is rebuilt from the cursor on.
-use Prim.Native.Nat.{◌+◌, ◌-◌, ◌*◌, ◌≤◌, ◌<◌}
+use Prim.Native.Nat.{◌+◌, ◌-◌, ◌*◌, ◌<◌}
 use mathlib.Core.Path.{◌≡◌}
 use mathlib.Core.List.{List}
 use lib.ListN.{length, take, drop}
@@ -14,12 +14,13 @@ use Rattle.traces.specs.Rebuilding.{rebuild_from, rebuild}
 use Rattle.traces.proofs.rebuild.Given as goal
 
 abbrev pub invariant-loop-j : goal.invariant-loop-j
-invariant-loop-j l = (l.j ≤ l.n) × (length l.room ≡ length l.initial.room) × Within (length l.s * 8) l.c × (l.last < 65536) × (l.other < 65536)
-    × ((tables : List (List Structure)) → CompiledOrNone tables l.tab
-    → rebuild tables l.order l.n (bits_in l.s)
-    ≡ before (take l.j l.room) (rebuild_from tables l.order (l.n - l.j) l.j (from_zero 32768 l.last) (from_zero 32768 l.other) l.c.table (drop l.c.at (bits_in l.s))))
-    × ((tables : List (List Structure)) → CompiledOrNone tables l.tab
-    → l.c.compared + compared_from tables (l.n - l.j) l.c.table (drop l.c.at (bits_in l.s)) ≡ compared_of tables l.n (bits_in l.s))
-
-abbrev pub decreases-loop-j : goal.decreases-loop-j
-decreases-loop-j l = l.n - l.j
+invariant-loop-j l = record {
+  within : Within (length l.s * 8) l.c;
+  last : l.last < 65536;
+  other : l.other < 65536;
+  traced : (tables : List (List Structure)) → CompiledOrNone tables l.tab
+      → rebuild tables l.order (length l.fn.room) (bits_in l.s)
+      ≡ before (take l.j l.room) (rebuild_from tables l.order (length l.fn.room - l.j) l.j (from_zero 32768 l.last) (from_zero 32768 l.other) l.c.table (drop l.c.at (bits_in l.s)));
+  summed : (tables : List (List Structure)) → CompiledOrNone tables l.tab
+      → l.c.compared + compared_from tables (length l.fn.room - l.j) l.c.table (drop l.c.at (bits_in l.s)) ≡ compared_of tables (length l.fn.room) (bits_in l.s);
+}
