@@ -2,17 +2,16 @@
 use Prim.Native.Nat.{ℕ, suc, ◌+◌, ◌-◌, ◌*◌, ◌/◌, ◌%◌, ◌^◌, ◌≤◌, ◌<◌}
 use mathlib.Core.Path.{◌≡◌, sym, ap, ◌∙◌}
 use mathlib.Core.List.{List, [], ◌∷◌, ◌++◌, append_assoc, append-nil}
-use native.Mathlib.Nat.{mod-lt}
 use native.Mathlib.Numerals.{add-one}
 use native.Mathlib.Omega.{arith}
 use lib.ListN.{length, take, drop, set, length-append, take-append-drop}
 use lib.Arith.{digits_lt}
-use lib.Pow.{pow_pos, pow-add, shl_lt}
+use lib.Pow.{pow-add, shl_lt}
 use lib.Seq.{take-suc-set, drop-set-lt, drop-drop, set_split, length-take-le}
 use Rattle.bits.specs.Bits.{high_first, bits_in}
 use Rattle.bits.proofs.Laws.{length_high_first, length_bits_in, bits_in_append, digits_room}
 use Rattle.packing.specs.Packing.{packed_in, packed}
-use Rattle.packing.specs.InnerSink.{Holds}
+use Rattle.packing.specs.InnerSink.{Holds, bits_put}
 use Rattle.packing.specs.declared.Sink.{Sink}
 use Rattle.packing.proofs.Laws.{Bytes, bytes_take, high_low, high_split, high_behind, packed_front, packed_last}
 
@@ -51,19 +50,17 @@ byte_rest out out₀ at b e =
 -- no whole byte is left: the bits are those of before and the n bits of the word
 pub put_all : (out₀ out : List ℕ) (s : Sink) (at part word n x q : ℕ) (bs : List ℕ) → Holds out₀ s bs
     → bits_in (take at out) ++ high_first part x ≡ bits_in (take s.at out₀) ++ high_first (s.part + n) x
-    → x ≡ s.acc * 2 ^ n + word → word < 2 ^ n → q ≡ 2 ^ part → part < 8 → at ≤ length out
-    → Holds out (record { at = at; acc = x % q; part = part }) (bs ++ high_first n word)
-put_all out₀ out s at part word n x q bs h e ex hw eq hp ha = record {
+    → x ≡ s.acc * 2 ^ n + word → word < 2 ^ n → q ≡ 2 ^ part → at ≤ length out → (few : part < 8) (fit : x % q < 2 ^ part)
+    → Holds out (record { at = at; acc = x % q; part = part; open_byte = few; bits_fit = fit }) (bs ++ high_first n word)
+put_all out₀ out s at part word n x q bs h e ex hw eq ha few fit = record {
   bits = rw (eq, high_low part part x (omega arith), e, ex, high_behind s.part n s.acc word hw)
       (sym (append_assoc (bits_in (take s.at out₀)) (high_first s.part s.acc) (high_first n word))
       ∙ ap (λ (l : List ℕ). l ++ high_first n word) h.bits);
-  part = hp;
-  acc = rw eq (mod-lt x (pow_pos part));
   at = ha;
 }
 
 -- a sink's place says how many bits it holds
-pub holds_length : (out : List ℕ) (s : Sink) (bs : List ℕ) → Holds out s bs → length bs ≡ s.at * 8 + s.part
+pub holds_length : (out : List ℕ) (s : Sink) (bs : List ℕ) → Holds out s bs → length bs ≡ bits_put s
 holds_length out s bs h =
     let p = take s.at out in
     let t = high_first s.part s.acc in
@@ -89,6 +86,6 @@ module _ (out : List ℕ) (s : Sink) (bytes : Bytes out) (bs : List ℕ) (h : Ho
       → set out s.at b ≡ packed bs ++ drop (length (packed bs)) out
   end_part b g l e =
       let p = take s.at out in
-      let last : packed bs ≡ p ++ (b ∷ []) = front ∙ rw (packed_last s.part s.acc g h.part h.acc, e) in
+      let last : packed bs ≡ p ++ (b ∷ []) = front ∙ rw (packed_last s.part s.acc g s.open_byte s.bits_fit, e) in
       let n : length (p ++ (b ∷ [])) ≡ suc s.at = length-append p (b ∷ []) ∙ rw (length-take-le s.at out h.at) (add-one s.at) in
       rw (last, n) (set_split out s.at b l ∙ sym (append_assoc p (b ∷ []) (drop (suc s.at) out)))

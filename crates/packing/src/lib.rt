@@ -4,14 +4,15 @@
 ghost use Rattle.std.specs.Prelude.{◌≡◌, List, [], ◌++◌, ℕ, ◌+◌, ◌*◌, ◌/◌, ◌%◌, ◌^◌, ◌<◌, ◌≤◌, length, drop};
 ghost use Rattle.bits.specs.Bits.{high_first};
 ghost use Rattle.packing.specs.Packing.{packed, bytes_for};
-ghost use Rattle.packing.specs.InnerSink.{Holds};
 
 // A place in the output, and the bits before it that do not fill a byte yet.
 #[derive(Clone, Copy)]
 pub struct Sink {
-    pub at: usize,
-    pub acc: u64,
-    pub part: usize,
+    at: usize,
+    acc: u64,
+    part: usize,
+    pub ghost open_byte: { part < 8 },
+    pub ghost bits_fit: { acc < 2 ^ part },
 }
 
 // The eight lowest bits of a number.
@@ -22,6 +23,8 @@ fn low_byte(x: u64) -> u8
 }
 
 impl Sink {
+    ghost use Rattle.packing.specs.InnerSink.{Holds, bits_put};
+
     // Nothing is written yet.
     pub fn new() -> Self
         ensures { (out : List ℕ) → Holds out result [] }
@@ -35,12 +38,11 @@ impl Sink {
 
     // The n lowest bits of a number are put behind what was written, the most significant first.
     pub fn put(self, out: &mut [u8], word: usize, n: usize) -> Self
-        requires { (n ≤ 32) × (word < 2 ^ n) × (self.part < 8) × (self.acc < 2 ^ self.part)
-            × ((self.at * 8 + self.part + n) / 8 ≤ length out.old) }
+        requires { (n ≤ 32) × (word < 2 ^ n) × ((bits_put self + n) / 8 ≤ length out.old) }
         ensures { ((bs : List ℕ) → Holds out.old self bs → Holds out.new result (bs ++ high_first n word))
             × (length out.new ≡ length out.old)
             × (drop result.at out.new ≡ drop result.at out.old)
-            × (result.at * 8 + result.part ≡ self.at * 8 + self.part + n) }
+            × (bits_put result ≡ bits_put self + n) }
     {
         let mut at = self.at;
         let mut part = self.part + n;
@@ -59,10 +61,10 @@ impl Sink {
 
     // The last byte is filled up with 0; answered is how many bytes were written.
     pub fn end(self, out: &mut [u8]) -> usize
-        requires { (self.part < 8) × (self.acc < 2 ^ self.part) × (bytes_for (self.at * 8 + self.part) ≤ length out.old) }
+        requires { bytes_for (bits_put self) ≤ length out.old }
         ensures { ((bs : List ℕ) → Holds out.old self bs
             → out.new ≡ packed bs ++ drop (length (packed bs)) out.old)
-            × (result ≡ bytes_for (self.at * 8 + self.part)) }
+            × (result ≡ bytes_for (bits_put self)) }
     {
         let at = self.at;
         if self.part == 0 {

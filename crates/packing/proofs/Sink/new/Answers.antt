@@ -6,4 +6,4 @@ use Rattle.packing.proofs.Sink.new.Goals as goal
 
 pub returns : goal.returns
 unfolding high_first bits_in
-returns c = λ out. record { bits = refl; part = omega arith; acc = omega arith; at = omega arith }
+returns c = λ out. record { bits = refl; at = omega arith }

@@ -1,17 +1,10 @@
 use Prim.Native.Nat.{◌+◌, ◌*◌, ◌%◌, ◌^◌}
-use mathlib.Core.Path.{◌≡◌, refl, ◌∙◌}
+use mathlib.Core.Path.{◌≡◌, ◌∙◌}
 use native.Mathlib.Omega.{arith}
 use lib.ListN.{length-set}
-use lib.Pow.{pow_pos, pow_mono}
+use lib.Pow.{pow_mono}
 use Rattle.packing.proofs.Sinks.{word_room, byte_more, byte_rest, put_all}
 use Rattle.packing.proofs.Sink.put.Goals as goal
-
-pub overflow_add-acc : goal.overflow_add-acc
-overflow_add-acc c = let a = c.args in
-    omega (arith, word_room a.self.part a.n a.self.acc a.word (omega arith) (omega arith) (omega arith) (omega arith))
-
-pub loop-part-init : goal.loop-part-init
-loop-part-init c = (omega arith, refl, refl, refl, refl)
 
 pub loop-part-preserved : goal.loop-part-preserved
 loop-part-preserved c = let a = c.args in
@@ -25,13 +18,6 @@ loop-part-preserved c = let a = c.args in
       byte_more l.out l.at l.part x b (omega arith) (omega arith) c.low_byte.ensures ∙ l.invariant.4,
     )
 
-pub nonzero_rem-result : goal.nonzero_rem-result
-nonzero_rem-result c = let p = c.loop-part.part in
-    omega (arith, pow_pos p, pow_mono {i = p} {j = 7} (omega arith))
-
-pub shape_of-out : goal.shape_of-out
-shape_of-out c = c.loop-part.invariant.2
-
 pub returns : goal.returns
 returns c = let a = c.args in
     let l = c.loop-part in
@@ -41,7 +27,7 @@ returns c = let a = c.args in
     let ex : x ≡ a.self.acc * 2 ^ a.n + a.word = omega (arith, room) in
     let eq : q ≡ 2 ^ l.part = omega (arith, pow_mono {i = l.part} {j = 7} (omega arith)) in (
       λ bs h. put_all a.out.now l.out a.self l.at l.part a.word a.n x q bs h l.invariant.4 ex (omega arith) eq
-          (omega arith) (omega arith),
+          (omega arith) _ _,
       l.invariant.2,
       l.invariant.3,
       omega arith,
