@@ -1,21 +1,11 @@
-use native.Mathlib.Omega.{arith}
+-- Every section before k is asked.
+use mathlib.Core.Path.{refl}
+use borrow.Author.Rules.{rules}
+use borrow.Author.Tests.{tests}
 use Rattle.record.specs.RecordRules.{sections_apart}
-use Rattle.wire.proofs.Tests.{turn_kept, turn_broken, turns_done}
+use Rattle.wire.proofs.Ranges.{all_over}
 use Rattle.record.proofs.all_apart.Goals as goal
 
-pub returns-then-not-is_apart : goal.returns-then-not-is_apart
-returns-then-not-is_apart c =
-    let a = c.args in
-    turn_broken (sections_apart a.rec.now a.k) c.loop-j.j a.k c.loop-j.invariant
-    (omega arith) c.is_apart.ensures c.if-not-is_apart.true
-
-pub loop-j-preserved : goal.loop-j-preserved
-loop-j-preserved c =
-    let a = c.args in
-    turn_kept (sections_apart a.rec.now a.k) c.loop-j.j a.k c.loop-j.invariant
-    (omega arith) c.is_apart.ensures c.if-not-is_apart.false
-
 pub returns : goal.returns
-returns c =
-    let a = c.args in
-    turns_done (sections_apart a.rec.now a.k) c.loop-j.j a.k c.loop-j.invariant (omega arith)
+returns c = all_over _ _ _ 1 c.args.k (sections_apart c.args.rec.now c.args.k) refl c.all.ensures.ran
+    (λ x q k. search (rules, tests)) (λ x q k. search (rules, tests))

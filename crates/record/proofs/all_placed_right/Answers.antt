@@ -1,28 +1,16 @@
+-- Every section behind Section 0 is asked.
+use mathlib.Core.Path.{◌≡◌, refl}
+use borrow.Author.Rules.{rules}
+use borrow.Author.Tests.{tests}
+use Rattle.wire.specs.RuleWords.{all_in}
 use Rattle.record.specs.RecordRules.{placed_right, all_placed_right}
-use Rattle.wire.proofs.Tests.{kept, broken, turn_kept, turn_broken, turns_done}
+use Rattle.wire.proofs.Ranges.{all_over}
 use Rattle.record.proofs.all_placed_right.Goals as goal
 
-pub returns-then-not-is_present : goal.returns-then-not-is_present
+pub returns-then-is_present : goal.returns-then-is_present
 unfolding all_placed_right
-returns-then-not-is_present c = simp (broken c.is_present.ensures c.if-not-is_present.true)
-
-pub loop-k-init : goal.loop-k-init
-unfolding all_placed_right
-loop-k-init c = simp (c.count_of-count.ensures.0, kept c.is_present.ensures c.if-not-is_present.false)
-
-pub returns-then-not-placed_right : goal.returns-then-not-placed_right
-returns-then-not-placed_right c =
-    let a = c.args in
-    turn_broken (placed_right a.rec.now) c.loop-k.k c.count_of-count.result c.loop-k.invariant
-    c.loop-k-test.true c.placed_right.ensures c.if-not-placed_right.true
-
-pub loop-k-preserved : goal.loop-k-preserved
-loop-k-preserved c =
-    let a = c.args in
-    turn_kept (placed_right a.rec.now) c.loop-k.k c.count_of-count.result c.loop-k.invariant
-    c.loop-k-test.true c.placed_right.ensures c.if-not-placed_right.false
-
-pub returns : goal.returns
-returns c =
-    let a = c.args in
-    turns_done (placed_right a.rec.now) c.loop-k.k c.count_of-count.result c.loop-k.invariant c.loop-k-test.false
+returns-then-is_present c =
+    let all : c.all.result ≡ all_in 1 c.count_of.result (placed_right c.args.rec.now) =
+    all_over _ _ _ 1 c.count_of.result (placed_right c.args.rec.now) refl c.all.ensures.ran
+    (λ x q k. search (rules, tests)) (λ x q k. search (rules, tests)) in
+    search (rules, tests)

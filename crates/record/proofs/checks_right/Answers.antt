@@ -1,24 +1,16 @@
--- Section 0's check is asked for first, from byte 7 on as far as its length says; the other sections' decide then.
-use Prim.Native.Nat.{ℕ, ◌+◌}
-use mathlib.Core.Path.{◌≡◌, ap, ◌∙◌}
-use Rattle.pointers.specs.Pointers.{section0_length}
-use Rattle.record.specs.RecordRules.{holds_check, checks_right}
-use Rattle.wire.proofs.Tests.{kept, broken}
+-- The check of every section behind Section 0 is asked.
+use mathlib.Core.Path.{◌≡◌, refl}
+use borrow.Author.Rules.{rules}
+use borrow.Author.Tests.{tests}
+use Rattle.wire.specs.RuleWords.{all_in}
+use Rattle.record.specs.RecordRules.{section_check_right, checks_right}
+use Rattle.wire.proofs.Ranges.{all_over}
 use Rattle.record.proofs.checks_right.Goals as goal
-use Rattle.record.proofs.checks_right.Goals.{After-holds_check}
 
--- the part whose check is asked for is Section 0
-asked : (c : After-holds_check) →
-    let r = c.args.rec.now in
-    c.holds_check.result ≡ holds_check r 6 (6 + section0_length r)
-asked c =
-    let r = c.args.rec.now in
-    c.holds_check.ensures ∙ ap (λ (n : ℕ). holds_check r 6 (6 + n)) c.number32-end.ensures.0
-
-pub returns-then-not-holds_check : goal.returns-then-not-holds_check
+pub returns-then-holds_check : goal.returns-then-holds_check
 unfolding checks_right
-returns-then-not-holds_check c = simp (broken (asked (goal.at.returns-then-not-holds_check c).After-holds_check) c.if-not-holds_check.true)
-
-pub returns : goal.returns
-unfolding checks_right
-returns c = simp (kept (asked (goal.at.returns c).After-holds_check) c.if-not-holds_check.false) c.section_checks_right.ensures
+returns-then-holds_check c =
+    let all : c.all.result ≡ all_in 1 c.count_of.result (section_check_right c.args.rec.now) =
+    all_over _ _ _ 1 c.count_of.result (section_check_right c.args.rec.now) refl c.all.ensures.ran
+    (λ x q k. search (rules, tests)) (λ x q k. search (rules, tests)) in
+    search (rules, tests)

@@ -1,43 +1,28 @@
--- The tests are the rule's six letters, in its order.
-use mathlib.Core.Path.{refl}
-use mathlib.Core.Bool.{and-false}
+-- The six letters are compared one by one; a byte that is not there counts as 0, and is no letter.
+use mathlib.Core.Path.{◌≡◌, refl, ap₂, ◌∙◌}
+use mathlib.Core.Bool.{◌&&◌, and-true}
+use mathlib.Core.List.{List, [], ◌∷◌}
+use Prim.Native.Nat.{ℕ}
+use lib.Dec.{eqb}
+use lib.ListN.{get_or, take, drop}
+use Rattle.std.proofs.lemmas.List.{get_or-drop}
+use lib.Pointwise.{pointwise}
 use Rattle.record.specs.RecordRules.{letters_right}
-use Rattle.wire.proofs.Tests.{same, differ}
 use Rattle.record.proofs.letters_right.Goals as goal
 
-pub returns-then-byte-ne83 : goal.returns-then-byte-ne83
-unfolding letters_right
-returns-then-byte-ne83 c = simp (differ {b = 83} c.byte.ensures.0 refl c.if-byte-ne83.true)
-
-pub returns-then-byte-ne67 : goal.returns-then-byte-ne67
-unfolding letters_right
-returns-then-byte-ne67 c = simp (differ {b = 67} c.byte-2.ensures.0 refl c.if-byte-ne67.true, and-false)
-
-pub returns-then-byte-ne80 : goal.returns-then-byte-ne80
-unfolding letters_right
-returns-then-byte-ne80 c = simp (differ {b = 80} c.byte-3.ensures.0 refl c.if-byte-ne80.true, and-false)
-
-pub returns-then-byte-ne69 : goal.returns-then-byte-ne69
-unfolding letters_right
-returns-then-byte-ne69 c = simp (differ {b = 69} c.byte-4.ensures.0 refl c.if-byte-ne69.true, and-false)
-
-pub returns-then-byte-ne67-2 : goal.returns-then-byte-ne67-2
-unfolding letters_right
-returns-then-byte-ne67-2 c = simp (differ {b = 67} c.byte-5.ensures.0 refl c.if-byte-ne67-2.true, and-false)
-
-pub returns-then-byte-ne71 : goal.returns-then-byte-ne71
-unfolding letters_right
-returns-then-byte-ne71 c = simp (differ {b = 71} c.byte-6.ensures.0 refl c.if-byte-ne71.true, and-false)
+spelled : (m : List ℕ) → pointwise eqb (take 6 m) (83 ∷ 67 ∷ 80 ∷ 69 ∷ 67 ∷ 71 ∷ [])
+    ≡ (eqb (get_or m 0 0) 83 && (eqb (get_or m 1 0) 67
+    && (eqb (get_or m 2 0) 80 && (eqb (get_or m 3 0) 69 && (eqb (get_or m 4 0) 67 && eqb (get_or m 5 0) 71)))))
+spelled [] = refl
+spelled (a ∷ []) = refl
+spelled (a ∷ b ∷ []) = refl
+spelled (a ∷ b ∷ c ∷ []) = refl
+spelled (a ∷ b ∷ c ∷ d ∷ []) = refl
+spelled (a ∷ b ∷ c ∷ d ∷ e ∷ []) = refl
+spelled (a ∷ b ∷ c ∷ d ∷ e ∷ f ∷ m) = simp and-true
 
 pub returns : goal.returns
 unfolding letters_right
 returns c =
-    let c = c in
-    simp (
-      same {b = 83} c.byte.ensures.0 refl c.if-byte-ne83.false,
-      same {b = 67} c.byte-2.ensures.0 refl c.if-byte-ne67.false,
-      same {b = 80} c.byte-3.ensures.0 refl c.if-byte-ne80.false,
-      same {b = 69} c.byte-4.ensures.0 refl c.if-byte-ne69.false,
-      same {b = 67} c.byte-5.ensures.0 refl c.if-byte-ne67-2.false,
-      same {b = 71} c.byte-6.ensures.0 refl c.if-byte-ne71.false,
-    )
+    let r = c.args.rec.now in
+    c.eq.ensures ∙ ap₂ (pointwise eqb) c.part_of.ensures c.as_slice.ensures ∙ simp get_or-drop at (spelled (drop 16 r))
