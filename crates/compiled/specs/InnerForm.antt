@@ -1,13 +1,13 @@
 -- The tables as the engines hold them: 385 numbers a table, how many structures and then six numbers for each of at most 64. Reading
 -- and searching both run on this form, which is made once for a lead. Behind the eight tables there are 256 guesses a table, of which
 -- nothing is said. No public contract rests on this.
-use Rattle.std.specs.Prelude.{ℕ, zero, suc, ◌+◌, ◌-◌, ◌*◌, ◌%◌, ◌^◌, ◌≤◌, ◌<◌, ◌≡◌, true, cond, List, [], ◌∷◌, ◌⊎◌, eqb, length, get_or}
+use Rattle.std.specs.Prelude.{Option, None, Some, ℕ, zero, suc, ◌+◌, ◌-◌, ◌*◌, ◌%◌, ◌^◌, ◌≤◌, ◌<◌, ◌≡◌, true, cond, List, [], ◌∷◌, ◌⊎◌, eqb, length, get_or}
 use Rattle.wire.specs.RuleWords.{every}
 use Rattle.bits.specs.InnerRaised.{sample_zero, value_zero}
 use Rattle.bits.specs.InnerWindow.{turned}
 use Rattle.tables.specs.declared.Structure.{Structure}
 use Rattle.tables.specs.Structures.{remainder_of, no_structure}
-use Rattle.tables.specs.Section2.{table_right}
+use Rattle.tables.specs.Section2.{table_right, tables_in}
 use Rattle.compiled.specs.declared.Form.{Form}
 
 -- how many numbers a table takes; where the guesses begin, behind eight tables; and how many numbers there are in all
@@ -89,6 +89,11 @@ CompiledSome tab = (tables : List (List Structure)) × Compiled tables tab
 -- the numbers hold the tables: they say them; or, with no Section 2, there are no tables and no numbers
 abbrev pub CompiledOrNone : List (List Structure) → List ℕ → Type 0
 CompiledOrNone tables tab = Compiled tables tab ⊎ ((tables ≡ []) × (tab ≡ []))
+
+-- the tables that Section 2's data mean, which start at a place; none without Section 2
+abbrev pub tables_held : ℕ → Option (List ℕ) → List (List Structure)
+tables_held at None = []
+tables_held at (Some s) = tables_in s at
 
 -- the numbers hold some tables, or none
 abbrev pub CompiledSomeOrNone : List ℕ → Type 0

@@ -3,12 +3,13 @@
 // numbers a table: for each first eight bits of a stream, the structure to try first.
 #![tactic(auto)]
 
-ghost use Rattle.std.specs.Prelude.{◌≡◌, true, [], ◌++◌, ℕ, ◌+◌, ◌*◌, ◌/◌, ◌^◌, ◌<◌, ◌≤◌, length, get_or, take, drop};
+ghost use Rattle.std.specs.Prelude.{if◌then◌else◌, is_some, replicate, ◌≡◌, true, [], ◌++◌, ℕ, ◌+◌, ◌*◌, ◌/◌, ◌^◌, ◌<◌, ◌≤◌, length, get_or, take, drop};
+ghost use Rattle.std.specs.Option.{option_copied, ForSome};
 ghost use Rattle.wire.specs.RuleWords.{every};
 ghost use Rattle.tables.specs.Structures.{structure_right, structures_at};
 ghost use Rattle.tables.specs.Default.{default_table};
 ghost use Rattle.tables.specs.Section2.{section2_right, tables_in, tables_from, table_right};
-ghost use Rattle.compiled.specs.InnerForm.{guesses_at, room_numbers, table_numbers, lowest, beyond, form_of, form_at, numbers_of, Says, Beside, SameTables, Compiled};
+ghost use Rattle.compiled.specs.InnerForm.{guesses_at, room_numbers, table_numbers, lowest, beyond, form_of, form_at, numbers_of, Says, Beside, SameTables, Compiled, CompiledOrNone, tables_held};
 
 use tables::Structure;
 
@@ -241,6 +242,32 @@ pub fn compile(s: &[u8], at: usize, spare: usize, tab: &mut [u32])
         put_guesses(tab, t);
         t += 1;
     }
+}
+
+// Room of its own for the numbers of the code tables, all of them 0.
+pub fn room() -> [u32; ROOM]
+    ensures { result ≡ replicate room_numbers 0 }
+{
+    [0; ROOM]
+}
+
+// The tables of Section 2's data, which start at place `at` and were judged to be right, are taken apart into the room. Answered is the
+// part of it that holds them: all of it, or nothing without Section 2.
+pub fn hold<'t>(
+    section2: Option<&[u8]>,
+    at: usize,
+    spare: usize,
+    room: &'t mut [u32; ROOM],
+) -> &'t [u32]
+    requires { (at ≤ 1048576) × ForSome section2 (λ s. section2_right spare s.now at ≡ true) }
+    ensures tables { CompiledOrNone (tables_held at (option_copied section2.entry)) result.now }
+    ensures count { length result.now ≡ (if is_some section2.entry then room_numbers else 0) }
+{
+    let Some(s) = section2 else {
+        return &room[..0];
+    };
+    compile(s, at, spare, room);
+    room
 }
 
 // The number that the row has for the first eight bits of a window.
