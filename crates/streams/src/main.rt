@@ -6,7 +6,8 @@
 ghost use Rattle.std.specs.Prelude.{◌≤◌, length};
 ghost use Rattle.compiled.specs.InnerForm.{CompiledSomeOrNone};
 
-use reading::{Cursor, Read};
+use reading::Cursor;
+use refusals::Refusal;
 use std::io;
 
 // Section 2's data, a structure to a line: the two example tables; the default table, named and spelled out; and a table of two codes
@@ -80,61 +81,28 @@ fn zeros() -> [u8; 65535] {
     [0; 65535]
 }
 
-fn put(rt: &impl Print, text: &str) -> io::Result<()> {
-    rt.print(text)
-}
+// Where there are more values, only how many they are is shown.
+const MOST_SHOWN: usize = 100;
 
-fn put_number(rt: &impl Print, n: usize) -> io::Result<()> {
-    rt.print(n)
-}
-
-// One of `count` values, 131,072 added, and a blank; where there are more than 100 none is shown.
-fn put_value(rt: &impl Print, x: usize, count: usize) -> io::Result<()> {
-    if 100 < count {
-        return Ok(());
-    }
-    if x < bits::VALUE_ZERO {
-        put(rt, "-")?;
-        put_number(rt, bits::VALUE_ZERO - x)?;
-    } else {
-        put_number(rt, x - bits::VALUE_ZERO)?;
-    }
-    put(rt, " ")
-}
-
-// How many values there are, where none was shown; the bits used, the structures compared, and the line's end.
-fn put_end(rt: &impl Print, count: usize, at: usize, compared: usize) -> io::Result<()> {
-    if 100 < count {
-        put_number(rt, count)?;
-        put(rt, " ")?;
-    }
-    put(rt, "| ")?;
-    put_number(rt, at)?;
-    put(rt, " | ")?;
-    put_number(rt, compared)?;
-    put(rt, "\n")
-}
-
-// So many values of a stream, by the tables held.
+// So many values of a stream, by the tables held; then the bits used and the structures compared.
 fn put_values(rt: &impl Print, stream: &[u8], tab: &[u32], count: usize) -> io::Result<()>
     requires { CompiledSomeOrNone tab.now × (length stream.now ≤ 1048576) }
 {
     let mut c = Cursor::new();
-    let mut left = count;
-    while 0 < left {
-        match c.value(stream, tab) {
-            Read::Value(x, d) => {
-                put_value(rt, x, count)?;
-                c = d;
-                left -= 1;
-            }
-            Read::Stuck => {
-                put(rt, "12 ")?;
-                left = 0;
-            }
+    for _ in 0..count {
+        let Some((x, next)) = c.value(stream, tab) else {
+            print!(rt; "{} ", Refusal::NoValue.number())?;
+            break;
+        };
+        if count <= MOST_SHOWN {
+            print!(rt; "{} ", x as i64 - bits::VALUE_ZERO as i64)?;
         }
+        c = next;
     }
-    put_end(rt, count, c.at, c.compared)
+    if MOST_SHOWN < count {
+        print!(rt; "{count} ")?;
+    }
+    println!(rt; "| {} | {}", c.at, c.compared)
 }
 
 // So many values of a stream, by the tables of Section 2's data; without tables where these are empty.
@@ -147,7 +115,7 @@ fn show(rt: &impl Print, section2: &[u8], stream: &[u8], count: usize) -> io::Re
         return put_values(rt, stream, &tab[..0], count);
     }
     if !tables::section2_right(section2, 0, 0) {
-        return put(rt, "7\n");
+        return println!(rt; "{}", Refusal::CodeTables.number());
     }
     compiled::compile(section2, 0, 0, &mut tab);
     put_values(rt, stream, &tab, count)
