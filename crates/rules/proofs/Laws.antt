@@ -11,9 +11,15 @@ use Rattle.record.specs.Opening.{open_refusal, opens}
 use Rattle.entries.specs.Section3.{section3_right}
 use Rattle.entries.specs.Sections5And6.{streams_right, section6_right}
 use Rattle.entries.specs.Section4.{section4_right}
+use Rattle.entries.proofs.Laws.{leads_right}
 use Rattle.rules.specs.LeadRules.{tables_right, lead_count_of, beat_subtracted, beat_sample_count, beat_right}
 use Rattle.rules.specs.LeadRules.{section6_kept, sections3_to6_right, agrees, has_lead, lead_refusal}
 
+-- a Section 3 that keeps its rule has at most 32 leads
+pub few_leads : (r : List ℕ) → section3_right (section_of r 3) ≡ true → lead_count_of r ≤ 32
+few_leads r h = (leads_right (section_of r 3) h).most
+
+-- a record from which the lead at a place can be read
 pub record Sound (r : List ℕ) (place : ℕ) : Type 0 where
   pub tables : tables_right r ≡ true
   pub leads : section3_right (section_of r 3) ≡ true
