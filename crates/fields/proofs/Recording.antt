@@ -8,13 +8,13 @@ use borrow.Author.Tests.{leb-true, eqb-true}
 use lib.Dec.{leb, eqb}
 use lib.ListN.{length, take, drop, length-take, length-drop, take-append-drop}
 use lib.Seq.{take-take, take-suc, get_or-drop, length-take-le}
+use Rattle.std.specs.Prelude.{Some}
 use Rattle.wire.specs.Numbers.{byte_at, part}
 use Rattle.wire.specs.RuleWords.{every, all_in}
 use Rattle.wire.proofs.Every.{all_every}
 use Rattle.wire.proofs.Laws.{kept_first, unlike}
 use Rattle.wire.proofs.Places.{Stands, stands_cut}
 use Rattle.header.specs.declared.Field.{Field}
-use Rattle.header.specs.declared.Step.TheVariants.{Found}
 use Rattle.header.specs.Fields.{fields_from, fields_end, with_tag, occurring, field_bytes, size_of}
 use Rattle.header.specs.Header.{ends_at, sole, found_keeps, is_identifier, has_size, any_field, tags_right, section1_right}
 use Rattle.header.proofs.Laws.{Within, found_within}
@@ -38,7 +38,7 @@ section_stands r k h = record {
 }
 
 -- the bytes that lookup shows are those of the first field with the tag in Section 1
-field_shown : (r : List ℕ) (tag : ℕ) (f : Field) → opens r ≡ true → occurring 1 (with_tag tag (fields_from (section_of r 1) 16)) ≡ Found f
+field_shown : (r : List ℕ) (tag : ℕ) (f : Field) → opens r ≡ true → occurring 1 (with_tag tag (fields_from (section_of r 1) 16)) ≡ Some f
     → field_of r tag ≡ field_bytes (section_of r 1) f
 unfolding field_of field_place
 field_shown r tag f o h =
@@ -49,7 +49,7 @@ field_shown r tag f o h =
 
 -- where there is one field, and it keeps a rule, that is the first
 sole_first : (rule : Field → Bool) (l : List Field) → found_keeps rule (sole l) ≡ true
-    → (f : Field) × (occurring 1 l ≡ Found f) × (rule f ≡ true)
+    → (f : Field) × (occurring 1 l ≡ Some f) × (rule f ≡ true)
 unfolding sole occurring
 sole_first rule [] h = unlike cc
 sole_first rule (f ∷ []) h = (f, refl, h)

@@ -2,112 +2,108 @@
 // itself (refusals 1 to 6 and 10), the start of a walk, and whether two identifiers are the same.
 #![tactic(auto)]
 
-ghost use Rattle.std.specs.Prelude.{◌≡◌, ◌+◌};
+ghost use Rattle.std.specs.Prelude.{◌≡◌, ◌+◌, ◌≤◌, length, IfOk};
+ghost use Rattle.refusals.specs.Refusals.{refusal_in, numbered};
+ghost use Rattle.wire.specs.Numbers.{part};
 ghost use Rattle.record.specs.Opening.{open_refusal};
 ghost use Rattle.fields.specs.Lookup.{field_place, walk_place, refusal_of, part_start, part_bytes};
 ghost use Rattle.fields.specs.Identifier.{same};
 ghost use Rattle.fields.specs.Recording.{field_of, identifier_of};
 
-use header::Step;
+use refusals::Refusal;
 
-// A part of the record, its first place and how many bytes it has; or the refusal.
+// A part of what is lent: its first place, and how many bytes it has.
 #[derive(Clone, Copy)]
-pub enum Place {
-    At(usize, usize),
-    Refused(u8),
+pub struct Part {
+    pub start: usize,
+    pub size: usize,
+}
+
+impl Part {
+    // The bytes of the part: that part of `s` itself.
+    pub fn of(self, s: &[u8]) -> &[u8]
+        requires { self.start + self.size ≤ length s.now }
+        ensures bytes { result.now ≡ part s.now self.start (self.start + self.size) }
+        ensures itself { (result.ref_ptr.0 ≡ s.entry.ref_ptr.0)
+            × (result.ref_ptr.1 ≡ self.start + s.entry.ref_ptr.1) }
+    {
+        &s[self.start..self.start + self.size]
+    }
 }
 
 // Where a field is in a record that opens.
-fn opened_place(rec: &[u8], tag: u8, occurrence: usize) -> Place
+#[tactic(auto, using(crate::proofs::Laws::places), unfolding(crate::specs::Lookup::field_place, record::specs::Opening::opens))]
+fn opened_place(rec: &[u8], tag: u8, occurrence: usize) -> Result<Part, Refusal>
     requires { open_refusal rec.now ≡ 0 }
-    ensures { result ≡ field_place rec.now tag occurrence }
+    ensures { numbered result ≡ field_place rec.now tag occurrence }
 {
-    let start = pointers::start_of(rec, 1);
-    match header::find(pointers::section_of(rec, 1), 16, tag, occurrence) {
-        Step::Found(f) => Place::At(start + f.start, f.end - f.start),
-        Step::End => Place::Refused(10),
-    }
+    let f = header::find(pointers::section_of(rec, 1), 16, tag, occurrence).ok_or(
+        Refusal::NotFound,
+    )?;
+    Ok(Part {
+        start: pointers::start_of(rec, 1) + f.start,
+        size: f.size(),
+    })
 }
 
 // Where a field is in the record.
-pub fn field_place(rec: &[u8], tag: u8, occurrence: usize) -> Place
-    ensures { result ≡ field_place rec.now tag occurrence }
+#[tactic(auto, unfolding(crate::specs::Lookup::field_place, record::specs::Opening::opens))]
+pub fn field_place(rec: &[u8], tag: u8, occurrence: usize) -> Result<Part, Refusal>
+    ensures { numbered result ≡ field_place rec.now tag occurrence }
 {
-    let refusal = record::refusal_of(rec);
-    if refusal != 0 {
-        return Place::Refused(refusal);
-    }
+    record::judge(rec)?;
     opened_place(rec, tag, occurrence)
 }
 
 // The bytes of the first field with a tag, of a record that opens: that part of the record itself.
-pub fn field_of<'a>(rec: &'a [u8], tag: u8) -> &'a [u8]
+#[tactic(auto, using(crate::proofs::Laws::places), unfolding(crate::specs::Recording::field_of))]
+pub fn field_of(rec: &[u8], tag: u8) -> &[u8]
     requires { open_refusal rec.now ≡ 0 }
     ensures { result.now ≡ field_of rec.now tag }
 {
     match opened_place(rec, tag, 1) {
-        Place::At(start, size) => wire::part_of(rec, start, start + size),
-        Place::Refused(_) => &rec[..0],
+        Ok(place) => place.of(rec),
+        Err(_) => &[],
     }
 }
 
 // The patient identifier without its NUL, of a record that opens.
-pub fn identifier_of<'a>(rec: &'a [u8]) -> &'a [u8]
+#[tactic(auto, unfolding(crate::specs::Recording::identifier_of))]
+pub fn identifier_of(rec: &[u8]) -> &[u8]
     requires { open_refusal rec.now ≡ 0 }
     ensures { result.now ≡ identifier_of rec.now }
 {
     let bytes = field_of(rec, 2);
-    let n = bytes.len();
-    if n == 0 {
-        return bytes;
-    }
-    &bytes[..n - 1]
+    &bytes[..bytes.len().saturating_sub(1)]
 }
 
-// A field's bytes: that part of the record itself, and the refusal through its own place; empty where there is one.
-pub fn field<'a>(rec: &'a [u8], tag: u8, occurrence: usize, refusal: &mut u8) -> &'a [u8]
-    ensures number { refusal.new ≡ refusal_of (field_place rec.now tag occurrence) }
-    ensures bytes { result.now ≡ part_bytes rec.now (field_place rec.now tag occurrence) }
-    ensures itself { (result.ref_ptr.0 ≡ rec.entry.ref_ptr.0)
-        × (result.ref_ptr.1 ≡ part_start (field_place rec.now tag occurrence) + rec.entry.ref_ptr.1) }
+// A field's bytes: that part of the record itself.
+#[tactic(auto, using(crate::proofs::Laws::places))]
+pub fn field(rec: &[u8], tag: u8, occurrence: usize) -> Result<&[u8], Refusal>
+    ensures number { refusal_in result ≡ refusal_of (field_place rec.now tag occurrence) }
+    ensures bytes { IfOk result (λ b. b.now ≡ part_bytes rec.now (field_place rec.now tag occurrence)) }
+    ensures itself { IfOk result (λ b. (b.ref_ptr.0 ≡ rec.entry.ref_ptr.0)
+        × (b.ref_ptr.1 ≡ part_start (field_place rec.now tag occurrence) + rec.entry.ref_ptr.1)) }
 {
-    match field_place(rec, tag, occurrence) {
-        Place::At(start, size) => {
-            *refusal = 0;
-            let end = start + size;
-            &rec[start..end]
-        }
-        Place::Refused(number) => {
-            *refusal = number;
-            &rec[..0]
-        }
-    }
+    Ok(field_place(rec, tag, occurrence)?.of(rec))
 }
 
 // Where a walk over the fields goes: Section 1, its header with it.
-pub fn walk_place(rec: &[u8]) -> Place
-    ensures { result ≡ walk_place rec.now }
+#[tactic(auto, unfolding(crate::specs::Lookup::walk_place, record::specs::Opening::opens))]
+pub fn walk_place(rec: &[u8]) -> Result<Part, Refusal>
+    ensures { numbered result ≡ walk_place rec.now }
 {
-    let refusal = record::refusal_of(rec);
-    if refusal != 0 {
-        return Place::Refused(refusal);
-    }
-    Place::At(pointers::start_of(rec, 1), pointers::length_of(rec, 1))
+    record::judge(rec)?;
+    Ok(Part {
+        start: pointers::start_of(rec, 1),
+        size: pointers::length_of(rec, 1),
+    })
 }
 
 // Two identifiers are the same exactly if their bytes are equal.
+#[tactic(auto, using(crate::proofs::Laws::same_bytes))]
 pub fn same_identifier(a: &[u8], b: &[u8]) -> bool
     ensures { result ≡ same a.now b.now }
 {
-    if a.len() != b.len() {
-        return false;
-    }
-    let mut i = 0;
-    while i < a.len() {
-        if a[i] != b[i] {
-            return false;
-        }
-        i += 1;
-    }
-    true
+    a == b
 }
