@@ -37,9 +37,8 @@ fn opened_place(rec: &[u8], tag: u8, occurrence: usize) -> Result<Part, Refusal>
     requires { open_refusal rec.now ≡ 0 }
     ensures { numbered result ≡ field_place rec.now tag occurrence }
 {
-    let f = header::find(pointers::section_of(rec, 1), 16, tag, occurrence).ok_or(
-        Refusal::NotFound,
-    )?;
+    let section = pointers::section_of(rec, 1);
+    let f = header::find(section, 16, tag, occurrence).ok_or(Refusal::NotFound)?;
     Ok(Part {
         start: pointers::start_of(rec, 1) + f.start,
         size: f.size(),
