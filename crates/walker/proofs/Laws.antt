@@ -7,16 +7,16 @@ use native.Mathlib.Omega.{arith}
 use lib.Dec.{leb, ltb, eqb}
 use lib.ListN.{length}
 use borrow.Author.Tests.{leb-true, eqb-true}
+use Rattle.std.specs.Prelude.{Option, Some, None, Ok, Err}
 use Rattle.wire.specs.Numbers.{number_at}
 use Rattle.wire.proofs.Laws.{all_at, kept_first, unlike}
-use Rattle.header.specs.declared.Step.{Step}
-use Rattle.header.specs.declared.Step.TheVariants.{Found, End}
+use Rattle.header.specs.declared.Field.{Field}
 use Rattle.header.specs.Fields.{step_at, fields_from}
 use Rattle.header.proofs.Laws.{step_past, step_found, fields_step}
 use Rattle.pointers.specs.Pointers.{section0_length, count_of, index_of, present, start_of, length_of, end_of, section_of, data_at}
 use Rattle.record.specs.RecordRules.{length_right, record_check_right, letters_right, section0_right, place_right, placed_right, all_placed_right}
 use Rattle.record.specs.Opening.{open_refusal, opens}
-use Rattle.fields.specs.declared.Place.TheVariants.{At, Refused}
+use Rattle.fields.specs.declared.Part.{Part}
 use Rattle.fields.specs.Lookup.{walk_place, part_bytes}
 use Rattle.walker.specs.Walk.{shown_by, shown_field, WalkShows}
 
@@ -55,16 +55,16 @@ section_inside r h =
     placed_inside r 1 placed.0 (all_at (placed_right r) 1 (count_of r) placed.1 1 (omega arith) (counted r c.0))
 
 -- so the place of a walk lies within the record
-pub place_inside : (r : List ℕ) (start size : ℕ) → walk_place r ≡ At start size → start + size ≤ length r
+pub place_inside : (r : List ℕ) (p : Part) → walk_place r ≡ Ok p → p.start + p.size ≤ length r
 unfolding walk_place
-place_inside r start size h = go (opens r) refl h
+place_inside r p h = go (opens r) refl h
   where
-    go : (b : Bool) → opens r ≡ b → cond b (At (start_of r 1) (length_of r 1)) (Refused (open_refusal r)) ≡ At start size
-        → start + size ≤ length r
+    go : (b : Bool) → opens r ≡ b → cond b (Ok (record { start = start_of r 1; size = length_of r 1 })) (Err (open_refusal r)) ≡ Ok p
+        → p.start + p.size ≤ length r
     go true o e =
         let i = section_inside r o in
-        let a : start_of r 1 ≡ start = cc in
-        let b : length_of r 1 ≡ size = cc in
+        let a : start_of r 1 ≡ p.start = cc in
+        let b : length_of r 1 ≡ p.size = cc in
         omega arith
     go false o e = unlike cc
 
@@ -74,10 +74,10 @@ unfolding shown_by
 shown_from zero s at h = rw (fields_step s at, step_past s at (omega arith))
 shown_from (suc n) s at h = go (λ e. shown_from n s e) (step_at s at) refl
   where
-    go : ((e : ℕ) → length s - e ≤ n → shown_by n s e ≡ map (shown_field s) (fields_from s e)) → (p : Step) → step_at s at ≡ p
+    go : ((e : ℕ) → length s - e ≤ n → shown_by n s e ≡ map (shown_field s) (fields_from s e)) → (p : Option Field) → step_at s at ≡ p
         → shown_by (suc n) s at ≡ map (shown_field s) (fields_from s at)
-    go later End e = rw (fields_step s at, e)
-    go later (Found f) e =
+    go later None e = rw (fields_step s at, e)
+    go later (Some f) e =
         let w = step_found s at f e in
         rw (fields_step s at, e, later f.end (omega arith))
 
@@ -88,7 +88,7 @@ unfolding walk_place section_of
 shows_all n r o h = rw o (shown_from n (section_of r 1) data_at (omega arith))
 
 -- a walk that is refused is at its end
-refused_end : (r : List ℕ) → opens r ≡ false → step_at (part_bytes r (walk_place r)) data_at ≡ End
+refused_end : (r : List ℕ) → opens r ≡ false → step_at (part_bytes r (walk_place r)) data_at ≡ None
 unfolding walk_place
 refused_end r o = rw o (step_past [] data_at (omega arith))
 

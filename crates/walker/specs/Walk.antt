@@ -1,31 +1,29 @@
 -- The part of Section 1 that a step of the walk shows (01, Header fields and the patient identifier), and the next step's place.
-use Rattle.std.specs.Prelude.{ℕ, zero, suc, ◌≤◌, ◌≡◌, Bool, true, false, cond, List, [], ◌∷◌, map, length}
+use Rattle.std.specs.Prelude.{ℕ, zero, suc, ◌≤◌, ◌≡◌, Bool, true, false, cond, List, [], ◌∷◌, map, length, Option, Some, None}
 use Rattle.header.specs.declared.Field.{Field}
-use Rattle.header.specs.declared.Step.{Step}
-use Rattle.header.specs.declared.Step.TheVariants.{Found, End}
 use Rattle.header.specs.Fields.{step_at, fields_from, shown_bytes, field_bytes}
 use Rattle.pointers.specs.Pointers.{data_at, section_of}
 use Rattle.record.specs.Opening.{opens}
 use Rattle.fields.specs.Lookup.{walk_place, part_bytes}
 
 -- a field is shown, or the end
-abbrev pub shown_more : Step → Bool
-shown_more (Found f) = true
-shown_more End = false
+abbrev pub shown_more : Option Field → Bool
+shown_more (Some f) = true
+shown_more None = false
 
 -- its tag, and where its bytes start; at the end 0 and 0
-abbrev pub shown_tag : Step → ℕ
-shown_tag (Found f) = f.tag
-shown_tag End = 0
+abbrev pub shown_tag : Option Field → ℕ
+shown_tag (Some f) = f.tag
+shown_tag None = 0
 
-abbrev pub shown_start : Step → ℕ
-shown_start (Found f) = f.start
-shown_start End = 0
+abbrev pub shown_start : Option Field → ℕ
+shown_start (Some f) = f.start
+shown_start None = 0
 
 -- the next step is at the field's end; the end is not left
-abbrev pub place_after : ℕ → Step → ℕ
-place_after at (Found f) = f.end
-place_after at End = at
+abbrev pub place_after : ℕ → Option Field → ℕ
+place_after at (Some f) = f.end
+place_after at None = at
 
 -- what a walker over s at a place shows in at most this many steps, each a tag and its bytes, up to the end
 unfoldable pub shown_by : ℕ → List ℕ → ℕ → List (ℕ × List ℕ)
@@ -44,4 +42,4 @@ shown_field s f = (f.tag, field_bytes s f)
 pub record WalkShows : Type 0 where
   pub all : (n : ℕ) (r : List ℕ) → opens r ≡ true → length (section_of r 1) ≤ n
       → shown_by n (part_bytes r (walk_place r)) data_at ≡ map (shown_field (section_of r 1)) (fields_from (section_of r 1) data_at)
-  pub refused : (r : List ℕ) → opens r ≡ false → step_at (part_bytes r (walk_place r)) data_at ≡ End
+  pub refused : (r : List ℕ) → opens r ≡ false → step_at (part_bytes r (walk_place r)) data_at ≡ None
