@@ -2,18 +2,19 @@
 use Prim.Native.Nat.{ℕ, zero, suc, ◌+◌, ◌-◌, ◌*◌, ◌/◌, ◌%◌, ◌^◌, ◌≤◌, ◌<◌}
 use mathlib.Core.Path.{◌≡◌, refl, sym, ap, ap₂, ◌∙◌}
 use mathlib.Core.Bool.{Bool, true, false}
-use mathlib.Core.List.{List, [], ◌∷◌, ◌++◌}
+use mathlib.Core.List.{List, [], ◌∷◌, ◌++◌, append-nil}
 use native.Mathlib.Numerals.{add-one}
 use native.Mathlib.Omega.{arith}
 use borrow.Author.Tests.{eq-eqb, ne_eqb}
+use Rattle.std.proofs.lemmas.List.{take_more}
 use lib.Dec.{eqb}
-use lib.ListN.{length, get_or, take, drop, replicate, length-take, length-drop, take-append-drop}
+use lib.ListN.{length, get_or, take, drop, replicate, length-append, length-take, length-drop, take-append-drop}
 use lib.Pow.{high, low, field, shr-shr, shl-shr}
-use lib.Seq.{drop_at, drop-cons, drop-drop, drop-nil, drop-append-add, drop-append-le}
-use lib.Seq.{take-append-add, take-append-le, take-append_seam, length-take-le}
+use lib.Seq.{drop-cons, drop-drop, drop-nil, drop-append-add, drop-append-le}
+use lib.Seq.{take-append-add, take-append-le, take-append_seam, length-take-le, take_all}
 use Rattle.bits.specs.Bits.{high_first, low_first, bits_in, number_after, number_of, begins}
 use Rattle.bits.specs.InnerWindow.{Window, turned}
-use Rattle.bits.proofs.Laws.{length_low_first, length_bits_in, bits_in_append, Small, small_take, small_drop}
+use Rattle.bits.proofs.Laws.{length_high_first, length_low_first, length_bits_in, bits_in_append, Small, small_take, small_drop}
 use Rattle.bits.proofs.Laws.{small_low_first, small_bits_in, number_append, number_after_lem, number_small, number_one}
 use Rattle.bits.proofs.Laws.{number_high, number_split, begins_append, begins_split}
 
@@ -45,16 +46,74 @@ zeros_none n zero = refl
 zeros_none zero (suc m) = refl
 zeros_none (suc n) (suc m) = zeros_none n m
 
--- the zeros behind bytes move up the number w that they are read on after
-pub zeros_after : (s : List ℕ) (w m : ℕ) → m ≤ 64 → number_after w (take m (drop (length s * 8) (bits_in (s ++ replicate 8 0)))) ≡ w * 2 ^ m
-unfolding bits_in high_first
-zeros_after s w m h =
-    let zeros : List ℕ = replicate 8 0 in
-    let e : drop (length s * 8) (bits_in (s ++ zeros)) ≡ bits_in zeros =
-    bits_in_drop (length s) (s ++ zeros) ∙ ap bits_in (drop_at s zeros (length s) refl) in
-    let bits : List ℕ = replicate 64 0 in
-    let long : length (take m bits) ≡ m = length-take-le m bits (omega arith) in
-    rw e (number_after_lem w (take m bits) ∙ rw (long, zeros_none 64 m) (omega arith))
+-- one byte more is read behind the first k
+pub byte_behind : (s : List ℕ) (k b : ℕ) → k < length s → b ≡ get_or s k 0 → b < 256
+    → number_of (bits_in (take (k + 1) s)) ≡ number_of (bits_in (take k s)) * 256 + b
+unfolding bits_in
+byte_behind s k b h e g =
+    let l = bits_in (take k s) in
+    let one : bits_in (b ∷ []) ≡ high_first 8 b = append-nil (high_first 8 b) in
+    rw (
+      take_more s k 0 h,
+      ← e,
+      bits_in_append (take k s) (b ∷ []),
+      one,
+      number_append 0 l (high_first 8 b),
+      number_after_lem (number_of l) (high_first 8 b),
+      number_high 8 b g,
+      length_high_first 8 b,
+    ) refl
+
+-- the first k bytes are a number of 8 bits for each
+pub bytes_small : (s : List ℕ) (k : ℕ) → k ≤ length s → number_of (bits_in (take k s)) < 2 ^ (k * 8)
+bytes_small s k h =
+    let long : length (bits_in (take k s)) ≡ k * 8 = simp length_bits_in (rw (length-take-le k s h)) in
+    rw long at (number_small (bits_in (take k s)) (small_bits_in (take k s)))
+
+-- the last bytes, from i on, and the zeros behind them
+module _ (s : List ℕ) (i : ℕ) (rest : List ℕ) (there : i ≤ length s) (e : rest ≡ take (length s - i) (drop i s)) (few : length rest ≤ 8) where
+  -- the zeros move the number of the bytes up to that of 64 bits
+  pub last_bytes : number_of (take 64 (drop (i * 8) (bits_in (s ++ replicate 8 0)))) ≡ number_of (bits_in rest) * 2 ^ ((8 - length rest) * 8)
+  unfolding bits_in high_first
+  last_bytes =
+      let zeros : List ℕ = replicate 8 0 in
+      let own = bits_in rest in
+      let m = (8 - length rest) * 8 in
+      let same : drop i s ≡ rest = sym (e ∙ take_all (length s - i) (drop i s) (simp length-drop (omega arith))) in
+      let sum : 64 ≡ length own + m = omega (arith, length_bits_in rest) in
+      let bits : List ℕ = replicate 64 0 in
+      let long : length (take m bits) ≡ m = length-take-le m bits (omega arith) in
+      rw (
+        bits_in_drop i (s ++ zeros),
+        drop-append-le i s zeros there,
+        same,
+        bits_in_append rest zeros,
+        sum,
+        take-append-add own (bits_in zeros) m,
+        number_append 0 own (take m bits),
+        number_after_lem (number_of own) (take m bits),
+        long,
+        zeros_none 64 m,
+      )
+      (omega arith)
+
+  -- which has room in 64 bits
+  pub last_small : number_of (bits_in rest) * 2 ^ ((8 - length rest) * 8) < 2 ^ 64
+  last_small =
+      let from = drop (i * 8) (bits_in (s ++ replicate 8 0)) in
+      let short = length-take-le (length s - i) (drop i s) (simp length-drop (omega arith)) in
+      let many : 64 ≤ length from = simp (length-drop, length_bits_in, length-append) (omega (arith, ap length e, short)) in
+      rw (← last_bytes)
+      (rw (length-take-le 64 from many) at (number_small (take 64 from) (small_take 64 from (small_drop (i * 8) _ (small_bits_in (s ++ replicate 8 0))))))
+
+  -- and is 0 where no byte is there
+  pub last_none : length rest ≡ 0 → number_of (take 64 (drop (i * 8) (bits_in (s ++ replicate 8 0)))) ≡ 0
+  unfolding bits_in number_after
+  last_none h = last_bytes ∙ go rest h
+    where
+      go : (l : List ℕ) → length l ≡ 0 → number_of (bits_in l) * 2 ^ ((8 - length l) * 8) ≡ 0
+      go [] g = omega arith
+      go (b ∷ l) g = absurd (omega arith)
 
 -- bytes behind the last leave the bits before them as they are
 pub bits_before : (s t : List ℕ) (at k : ℕ) → at + k ≤ length (bits_in s)

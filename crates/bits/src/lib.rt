@@ -6,12 +6,6 @@ ghost use Rattle.std.specs.Prelude.{◌≡◌, ◌++◌, ◌+◌, ◌-◌, ◌*�
 ghost use Rattle.bits.specs.Bits.{bits_in, number_of};
 ghost use Rattle.bits.specs.InnerWindow.{Window, turned};
 
-fn wide(x: u8) -> u64
-    ensures { (result ≡ x) × (result < 256) }
-{
-    x as u64
-}
-
 // The eight bytes from i on, the first highest. The compiler makes one load and one swap of bytes of this sum, since it adds the last
 // byte first.
 pub fn word(s: &[u8], i: usize) -> u64
@@ -34,17 +28,15 @@ fn last_word(s: &[u8], i: usize) -> u64
     requires { (i ≤ length s.now) × (length s.now < i + 8) }
     ensures { result ≡ number_of (take 64 (drop (i * 8) (bits_in (s.now ++ replicate 8 0)))) }
 {
-    let n = s.len();
-    let mut w: u64 = 0;
-    let mut k = i;
-    while k < n {
-        w = w * 256 + wide(s[k]);
-        k += 1;
-    }
-    if n == i {
+    let rest = &s[i..];
+    if rest.is_empty() {
         return 0;
     }
-    w << ((i + 8 - n) * 8)
+    let mut w: u64 = 0;
+    for byte in rest {
+        w = w * 256 + u64::from(*byte);
+    }
+    w << ((8 - rest.len()) * 8)
 }
 
 // The window on the stream from bit `at` on.
@@ -75,20 +67,19 @@ pub fn after(w: u64, p: usize, q: usize) -> u64
     (w << p) >> (64 - q)
 }
 
-// A base code of p bits, whose first bit is the lowest, turned so that its first bit is the highest.
+// A base code of p bits, whose first bit is the lowest, turned so that its first bit is the highest. (`reverse_bits` would turn all 64
+// bits of the word, and be longer for the few that a prefix has.)
 pub fn turn(p: usize, code: usize) -> usize
     requires { p ≤ 32 }
     ensures { (result ≡ turned p code) × (result < 2 ^ p) }
 {
-    let mut r: usize = 0;
-    let mut x = code;
-    let mut k: usize = 0;
-    while k < p {
-        r = r * 2 + x % 2;
-        x = x / 2;
-        k += 1;
+    let mut turned = 0;
+    let mut rest = code;
+    for _ in 0..p {
+        turned = turned * 2 + rest % 2;
+        rest /= 2;
     }
-    r
+    turned
 }
 
 // Whole numbers are held without a sign: a sample with this much added, a stored value with that much.

@@ -1,65 +1,65 @@
-use mathlib.Core.Path.{◌≡◌, refl, sym, ◌∙◌}
-use mathlib.Core.List.{◌++◌}
-use Prim.Native.Nat.{◌+◌, ◌-◌, ◌*◌, ◌^◌, ◌≤◌, ◌<◌}
-use native.Mathlib.Nat.{mod-eq_of_lt, zero-mul}
+use mathlib.Core.Path.{◌≡◌, refl, sym, ap, ◌∙◌}
+use Prim.Native.Nat.{ℕ, ◌+◌, ◌-◌, ◌*◌, ◌^◌, ◌≤◌, ◌<◌}
+use native.Mathlib.Nat.{mod-eq_of_lt}
 use native.Mathlib.Omega.{arith}
-use lib.ListN.{length, get_or, take, drop, replicate, length-append, length-drop, get_or-append}
-use lib.Seq.{length-take-le}
-use Rattle.bits.specs.Bits.{bits_in, number_of}
-use Rattle.bits.proofs.Laws.{digits_more, digits_room, length_bits_in, small_take, small_drop, small_bits_in, number_small}
-use Rattle.bits.proofs.Windows.{byte_more, zeros_after}
+use borrow.Author.Tests.{eqb-true}
+use mathlib.Core.List.{List}
+use lib.ListN.{length, take, drop, length-drop}
+use Rattle.std.proofs.lemmas.List.{get_or-take}
+use lib.Seq.{take_all, length-take-le, get_or-drop}
+use Rattle.bits.specs.Bits.{bits_in, number_of, number_after}
+use Rattle.bits.proofs.Laws.{digits_room}
+use Rattle.bits.proofs.Windows.{byte_behind, bytes_small, last_bytes, last_small, last_none}
 use Rattle.bits.proofs.last_word.Goals as goal
-use Rattle.bits.proofs.last_word.Goals.{After-loop-k}
+use Rattle.bits.proofs.last_word.Goals.{Start, In-loop-byte, After-from}
 
-pub loop-k-init : goal.loop-k-init
-loop-k-init c = let i = c.args.i in
-    let e : (i + 8 - i) * 8 ≡ 64 = omega arith in
-    let z : i - i ≡ 0 = omega arith in
-    (omega arith, omega arith, rw z (omega arith), rw e)
+-- fewer than eight bytes are there
+few : (c : Start) →
+    let a = c.args in
+    length (take (length a.s.now - a.i) (drop a.i a.s.now)) < 8
+few c = let a = c.args in rw (length-take-le (length a.s.now - a.i) (drop a.i a.s.now) (simp length-drop (omega arith))) (omega arith)
+
+pub returns-then-is_empty : goal.returns-then-is_empty
+returns-then-is_empty c =
+    let a = c.args in
+    sym (last_none a.s.now a.i _ c.requires.0 refl (omega (arith, few (goal.at.returns-then-is_empty c).Start)) (eqb-true _ _ (sym c.is_empty.ensures ∙ c.if-is_empty.true)))
+
+pub loop-byte-init : goal.loop-byte-init
+unfolding bits_in number_after
+loop-byte-init c = refl
+
+-- the number has room for one byte more
+room : (c : In-loop-byte) → c.loop-byte.w < 2 ^ 56
+room c =
+    let l = c.loop-byte in
+    let few : l.byte-index * 8 ≤ 56 = omega (arith, few (goal.at.overflow_mul-w c).Start, c.loop-byte-test.true) in
+    rw l.invariant (digits_room 2 (l.byte-index * 8) 56 (omega arith) few (bytes_small _ l.byte-index l.auto.byte-index-end))
+
+-- a byte is one
+byte : (c : After-from) → c.from.result < 256
+byte c =
+    let a = c.args in
+    let k = c.loop-byte.byte-index in
+    let there : k < length a.s.now - a.i = rw (length-take-le (length a.s.now - a.i) (drop a.i a.s.now) (simp length-drop (omega arith))) at c.loop-byte-test.true in
+    rw (c.from.ensures, get_or-take (length a.s.now - a.i) (drop a.i a.s.now) k 0 there, get_or-drop a.i a.s.now k 0) (omega (arith, c.type_inv.s (a.i + k)))
 
 pub overflow_mul-w : goal.overflow_mul-w
-overflow_mul-w c = let l = c.loop-k in
-    let i = c.args.i in
-    omega (arith, digits_room 256 (l.k - i) 7 {w = l.w} (omega arith) (omega arith) l.invariant.2)
+overflow_mul-w c = omega (arith, room c)
 
 pub overflow_add-w : goal.overflow_add-w
-overflow_add-w c = let l = c.loop-k in
-    let i = c.args.i in
-    omega (arith, c.wide.ensures, digits_room 256 (l.k - i) 7 {w = l.w} (omega arith) (omega arith) l.invariant.2)
+overflow_add-w c = omega (arith, room (goal.at.overflow_add-w c).In-loop-byte, byte (goal.at.overflow_add-w c).After-from)
 
-pub loop-k-preserved : goal.loop-k-preserved
-loop-k-preserved c = let a = c.args in
-    let l = c.loop-k in
-    let s = a.s.now in
-    let t = s ++ replicate 8 0 in
-    let there : l.k < length t = simp length-append (omega arith) in
-    let read : c.wide.result ≡ get_or t l.k 0 = c.wide.ensures.0 ∙ sym (get_or-append s (replicate 8 0) 0 l.k (omega arith)) in
-    let more =
-    byte_more t l.k (l.k + 1) l.w c.wide.result ((a.i + 8 - l.k) * 8) ((a.i + 8 - (l.k + 1)) * 8) refl (omega arith) there
-    read c.wide.ensures.1 in
-    let e : l.k + 1 - a.i ≡ l.k - a.i + 1 = omega arith in
-    (omega arith, omega arith, rw e (digits_more 256 (l.k - a.i) l.invariant.2 c.wide.ensures.1), sym more ∙ l.invariant.3)
-
--- with all bytes read, the zeros behind them move their number up to that of the 64 bits, which has room
-whole : (c : After-loop-k) →
-    let a = c.args in
-    let bits = take 64 (drop (a.i * 8) (bits_in (a.s.now ++ replicate 8 0))) in
-    (c.loop-k.w * 2 ^ ((a.i + 8 - length a.s.now) * 8) ≡ number_of bits) × (number_of bits < 2 ^ 64)
-whole c =
-    let a = c.args in
-    let l = c.loop-k in
-    let s = a.s.now in
-    let from = drop (a.i * 8) (bits_in (s ++ replicate 8 0)) in
-    let end : l.k ≡ length s = omega arith in
-    let many : 64 ≤ length from = simp (length-drop, length_bits_in, length-append) (omega arith) in
-    let small = number_small (take 64 from) (small_take 64 from (small_drop (a.i * 8) _ (small_bits_in (s ++ replicate 8 0)))) in
-    (sym (zeros_after s l.w ((a.i + 8 - length s) * 8) (omega arith)) ∙ rw end at l.invariant.3, rw (length-take-le 64 from many) at small)
-
-pub returns-then-n-i : goal.returns-then-n-i
-returns-then-n-i c = let l = c.loop-k in
-    let none : l.k - c.args.i ≡ 0 = omega arith in
-    let zero : l.w ≡ 0 = omega (arith, rw none at l.invariant.2) in
-    rw (zero, zero-mul) at (whole (goal.at.returns-then-n-i c).After-loop-k).0
+pub loop-byte-preserved : goal.loop-byte-preserved
+loop-byte-preserved c =
+    let l = c.loop-byte in
+    let e = byte_behind _ l.byte-index c.from.result c.loop-byte-test.true c.from.ensures (byte c) in
+    rw l.invariant (sym e)
 
 pub returns : goal.returns
-returns c = let w = whole (goal.at.returns c).After-loop-k in mod-eq_of_lt (omega (arith, w)) ∙ w.0
+returns c =
+    let a = c.args in
+    let l = c.loop-byte in
+    let bytes = take (length a.s.now - a.i) (drop a.i a.s.now) in
+    let few = few (goal.at.returns c).Start in
+    let all : l.w ≡ number_of (bits_in bytes) = l.invariant ∙ ap (λ (xs : List ℕ). number_of (bits_in xs)) (take_all l.byte-index bytes c.loop-byte-test.false) in
+    rw all (mod-eq_of_lt (last_small a.s.now a.i bytes c.requires.0 refl (omega arith)) ∙ sym (last_bytes a.s.now a.i bytes c.requires.0 refl (omega arith)))
