@@ -5,11 +5,11 @@
 ghost use Rattle.std.specs.Prelude.{◌≡◌, ◌+◌, ◌≤◌, length, IfOk};
 ghost use Rattle.refusals.specs.Refusals.{refusal_in, numbered};
 ghost use Rattle.wire.specs.Numbers.{part};
-ghost use Rattle.record.specs.Opening.{open_refusal};
 ghost use Rattle.fields.specs.Lookup.{field_place, walk_place, refusal_of, part_start, part_bytes};
 ghost use Rattle.fields.specs.Identifier.{same};
 ghost use Rattle.fields.specs.Recording.{field_of, identifier_of};
 
+use record::Opened;
 use refusals::Refusal;
 
 // A part of what is lent: its first place, and how many bytes it has.
@@ -33,14 +33,13 @@ impl Part {
 
 // Where a field is in a record that opens.
 #[tactic(auto, using(crate::proofs::Laws::places), unfolding(crate::specs::Lookup::field_place, record::specs::Opening::opens))]
-fn opened_place(rec: &[u8], tag: u8, occurrence: usize) -> Result<Part, Refusal>
-    requires { open_refusal rec.now ≡ 0 }
-    ensures { numbered result ≡ field_place rec.now tag occurrence }
+fn opened_place(rec: Opened, tag: u8, occurrence: usize) -> Result<Part, Refusal>
+    ensures { numbered result ≡ field_place rec.entry.bytes.now tag occurrence }
 {
-    let section = pointers::section_of(rec, 1);
+    let section = pointers::section_of(rec.bytes, 1);
     let f = header::find(section, 16, tag, occurrence).ok_or(Refusal::NotFound)?;
     Ok(Part {
-        start: pointers::start_of(rec, 1) + f.start,
+        start: pointers::start_of(rec.bytes, 1) + f.start,
         size: f.size(),
     })
 }
@@ -50,27 +49,24 @@ fn opened_place(rec: &[u8], tag: u8, occurrence: usize) -> Result<Part, Refusal>
 pub fn field_place(rec: &[u8], tag: u8, occurrence: usize) -> Result<Part, Refusal>
     ensures { numbered result ≡ field_place rec.now tag occurrence }
 {
-    record::judge(rec)?;
-    opened_place(rec, tag, occurrence)
+    opened_place(Opened::new(rec)?, tag, occurrence)
 }
 
-// The bytes of the first field with a tag, of a record that opens: that part of the record itself.
+// The bytes of the first field with a tag: that part of the record itself, empty where there is none.
 #[tactic(auto, using(crate::proofs::Laws::places), unfolding(crate::specs::Recording::field_of))]
-pub fn field_of(rec: &[u8], tag: u8) -> &[u8]
-    requires { open_refusal rec.now ≡ 0 }
-    ensures { result.now ≡ field_of rec.now tag }
+pub fn field_of<'a>(rec: Opened<'a>, tag: u8) -> &'a [u8]
+    ensures { result.now ≡ field_of rec.entry.bytes.now tag }
 {
     match opened_place(rec, tag, 1) {
-        Ok(place) => place.of(rec),
+        Ok(place) => place.of(rec.bytes),
         Err(_) => &[],
     }
 }
 
-// The patient identifier without its NUL, of a record that opens.
+// The patient identifier without its NUL.
 #[tactic(auto, unfolding(crate::specs::Recording::identifier_of))]
-pub fn identifier_of(rec: &[u8]) -> &[u8]
-    requires { open_refusal rec.now ≡ 0 }
-    ensures { result.now ≡ identifier_of rec.now }
+pub fn identifier_of<'a>(rec: Opened<'a>) -> &'a [u8]
+    ensures { result.now ≡ identifier_of rec.entry.bytes.now }
 {
     let bytes = field_of(rec, 2);
     &bytes[..bytes.len().saturating_sub(1)]

@@ -2,7 +2,7 @@
 // Every function answers for any bytes; `judge` asks the rules in their order, so that later ones meet only sound bytes.
 #![tactic(auto)]
 
-ghost use Rattle.std.specs.Prelude.{◌≡◌, ◌<◌};
+ghost use Rattle.std.specs.Prelude.{◌≡◌, ◌<◌, IfOk};
 ghost use Rattle.std.specs.Result.{result_unwrap_or};
 ghost use Rattle.refusals.specs.Refusals.{refusal_in};
 ghost use Rattle.wire.specs.RuleWords.{all_in};
@@ -181,6 +181,24 @@ pub fn judge(rec: &[u8]) -> Result<(), Refusal>
     Refusal::Placement.unless(all_placed_right(rec))?;
     Refusal::SectionCheck.unless(checks_right(rec))?;
     Refusal::HeaderFields.unless(fields_right(rec))
+}
+
+// A record that opens: whoever has one has it from `new`.
+#[derive(Clone, Copy)]
+pub struct Opened<'a> {
+    pub bytes: &'a [u8],
+    ghost opens: { open_refusal bytes.now ≡ 0 },
+}
+
+impl<'a> Opened<'a> {
+    // The record itself, unless it is refused.
+    pub fn new(rec: &'a [u8]) -> Result<Self, Refusal>
+        ensures number { refusal_in result ≡ open_refusal rec.now }
+        ensures itself { IfOk result (λ opened. opened.bytes ≡ rec.entry) }
+    {
+        judge(rec)?;
+        Ok(Opened { bytes: rec })
+    }
 }
 
 // Opening: each pointer as stored, or the refusal.
