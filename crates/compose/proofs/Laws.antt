@@ -1,20 +1,21 @@
 -- The conditions on a job, the leads' samples and streams, and the record's parts. Assumes nothing.
-use Prim.Native.Nat.{ℕ, suc, ◌+◌, ◌-◌, ◌*◌, ◌<◌, ◌≤◌}
-use mathlib.Core.Path.{◌≡◌, ap, ◌∙◌}
+use Prim.Native.Nat.{ℕ, suc, ◌+◌, ◌-◌, ◌*◌, ◌<◌, ◌≤◌, max}
+use mathlib.Core.Path.{◌≡◌, refl, sym, ap, ◌∙◌}
 use mathlib.Core.Bool.{Bool, true, false, not, ◌&&◌, cond, and-eq-true_iff}
 use mathlib.Core.List.{List, [], ◌∷◌}
 use native.Mathlib.Omega.{arith}
-use borrow.Author.Tests.{le-leb, lt-leb, leb-true, eqb-true}
+use borrow.Author.Tests.{leb-true, leb-false, eqb-true}
 use lib.Dec.{leb, eqb}
 use lib.ListN.{length, get_or, drop}
-use lib.Seq.{drop-cons, drop-length}
-use lib.IntN.{ℤ}
+use lib.Seq.{drop-cons}
+use Rattle.std.specs.Option.{unwrap_or}
+use Rattle.std.specs.List.{fold, reduce, sum_by}
+use Rattle.std.proofs.lemmas.List.Recursion.{is_sum_by}
 use Rattle.wire.specs.RuleWords.{all_in}
 use Rattle.wire.proofs.Laws.{all_at, kept_first}
 use Rattle.header.specs.Header.{section1_right}
 use Rattle.encode.specs.Encoding.{tables_given, tables_given_right, work_right}
-use Rattle.compose.specs.declared.Head.{Head}
-use Rattle.compose.specs.Writing.{Job, job_of, total, longest, lead_asked, job_right, job_refusal}
+use Rattle.compose.specs.Writing.{Job, total, longest, lead_asked, job_right, job_refusal}
 use Rattle.compose.specs.InnerJob.{Sound, Listed}
 
 -- ---- what is asked
@@ -25,59 +26,36 @@ back_cons counts i h g =
     let e : suc (i - 1) ≡ i = omega arith in
     drop-cons counts (i - 1) 0 (omega arith) ∙ ap (λ (j : ℕ). get_or counts (i - 1) 0 ∷ drop j counts) e
 
-pub total_start : (counts : List ℕ) → 0 ≡ total (drop (length counts) counts)
+pub total_sum : (counts : List ℕ) → sum_by (λ x. x) counts ≡ total counts
 unfolding total
-total_start counts = rw (drop-length counts)
+total_sum counts = sym (is_sum_by total (λ x. x) refl (λ _ _. refl) counts)
 
-pub total_more : (counts : List ℕ) (i sum : ℕ) → 0 < i → i ≤ length counts → sum ≡ total (drop i counts)
-    → sum + get_or counts (i - 1) 0 ≡ total (drop (i - 1) counts)
+pub total_most : (counts : List ℕ) (top : ℕ) → ((k : ℕ) → get_or counts k 0 ≤ top) → total counts ≤ length counts * top
 unfolding total
-total_more counts i sum h g e = rw (back_cons counts i h g) (omega arith)
+total_most [] top h = omega arith
+total_most (c ∷ counts) top h =
+    let first : c ≤ top = h 0 in
+    let rest = total_most counts top (λ k. h (suc k)) in
+    omega arith
 
-pub longest_start : (counts : List ℕ) → 0 ≡ longest (drop (length counts) counts)
+-- the largest of the counts and a number
+fold_longest : (counts : List ℕ) (n : ℕ) → fold max n counts ≡ max n (longest counts)
 unfolding longest
-longest_start counts = rw (drop-length counts)
+fold_longest [] n = omega arith
+fold_longest (c ∷ counts) n = fold_longest counts (max n c) ∙ go (leb (longest counts) c) refl
+  where
+    go : (b : Bool) → leb (longest counts) c ≡ b → max (max n c) (longest counts) ≡ max n (cond b c (longest counts))
+    go true e = omega (arith, leb-true (longest counts) c e)
+    go false e = omega (arith, leb-false (longest counts) c e)
 
-module _ (counts : List ℕ) (i most : ℕ) (h : 0 < i) (g : i ≤ length counts) (e : most ≡ longest (drop i counts)) where
-  pub longest_new : most ≤ get_or counts (i - 1) 0 → get_or counts (i - 1) 0 ≡ longest (drop (i - 1) counts)
-  unfolding longest
-  longest_new l = rw (back_cons counts i h g, ← e, le-leb most (get_or counts (i - 1) 0) l)
-
-  pub longest_old : get_or counts (i - 1) 0 < most → most ≡ longest (drop (i - 1) counts)
-  unfolding longest
-  longest_old l = rw (back_cons counts i h g, ← e, lt-leb most (get_or counts (i - 1) 0) l)
-
--- Sections 1 and 2 have no part in 17
-pub right_apart : (s1 s2 : List ℕ) (head : Head) (firsts counts ids : List ℕ) (xs : List ℤ) {r : Bool} → r ≡ job_right
-    (job_of [] [] head firsts counts ids xs)
-    → r ≡ job_right (job_of s1 s2 head firsts counts ids xs)
-unfolding job_right
-right_apart s1 s2 head firsts counts ids xs e = e
-
-module _ (j : Job) (work : ℕ) where
-  pub refused_asked : job_right j ≡ false → 17 ≡ job_refusal j work
-  unfolding job_refusal work_right
-  refused_asked e = rw e
-
-  module _ (asked : job_right j ≡ true) where
-    pub refused_header : section1_right 0 j.section1 0 ≡ false → 6 ≡ job_refusal j work
-    unfolding job_refusal work_right
-    refused_header e = rw (asked, e)
-
-    module _ (header : section1_right 0 j.section1 0 ≡ true) where
-      pub refused_given : tables_given_right j.section2 ≡ false → 7 ≡ job_refusal j work
-      unfolding job_refusal work_right
-      refused_given e = rw (asked, header, e)
-
-      module _ (given : tables_given_right j.section2 ≡ true) (m n : ℕ) (long : m ≡ longest j.counts)
-          (many : n ≡ length (tables_given j.section2)) where
-        pub refused_work : work < m * n → 11 ≡ job_refusal j work
-        unfolding job_refusal work_right
-        refused_work l = rw (asked, header, given, ← long, ← many, lt-leb (m * n) work l)
-
-        pub refused_none : m * n ≤ work → 0 ≡ job_refusal j work
-        unfolding job_refusal work_right
-        refused_none l = rw (asked, header, given, ← long, ← many, le-leb (m * n) work l)
+pub longest_reduce : (counts : List ℕ) → unwrap_or (reduce max counts) 0 ≡ longest counts
+unfolding longest
+longest_reduce [] = refl
+longest_reduce (c ∷ counts) = fold_longest counts c ∙ go (leb (longest counts) c) refl
+  where
+    go : (b : Bool) → leb (longest counts) c ≡ b → max c (longest counts) ≡ cond b c (longest counts)
+    go true e = omega (arith, leb-true (longest counts) c e)
+    go false e = omega (arith, leb-false (longest counts) c e)
 
 -- ---- nothing is refused before the search
 
@@ -143,11 +121,11 @@ module _ (j : Job) (work : ℕ) (z : job_refusal j work ≡ 0) where
       let d = kept_first enough 10 0 c.1 in
       (a.0, c.0, leb-true (longest j.counts * length (tables_given j.section2)) work d.0)
 
-  pub job_sound : Sound j.section2 j.counts j.samples work × (length j.counts ≤ 32) × (j.order ≤ 2)
+  pub job_sound : Sound j work × (length j.counts ≤ 32) × (j.order ≤ 2)
   job_sound =
       let r = right_says j passes.0 in
       let most = longest_most j.counts 65536 (λ k l. (asked_at j.firsts j.counts r.5 k l).1) in
       ((passes.1, most, passes.2, r.4), r.0, r.3)
 
-  pub job_listed : Listed j.firsts j.counts j.ids
+  pub job_listed : Listed j
   job_listed = let r = right_says j passes.0 in (r.1, r.2, r.0, λ k l. (asked_at j.firsts j.counts r.5 k l).0)

@@ -1,14 +1,13 @@
 -- The result of the search decides: the refusals behind the search and the answer. Assumes nothing.
-use Prim.Native.Nat.{ℕ, zero, suc, ◌<◌, ◌≤◌, min}
-use mathlib.Core.Path.{◌≡◌, refl, sym, ap, ap₂, ◌∙◌, subst}
+use Prim.Native.Nat.{ℕ, suc, ◌≤◌}
+use mathlib.Core.Path.{◌≡◌, refl, sym, ◌∙◌, subst}
 use mathlib.Core.Bool.{Bool, true, false, ◌&&◌, cond}
 use mathlib.Core.List.{List, [], ◌∷◌, ◌++◌, map}
 use mathlib.Core.Logic.{◌⊎◌, inl, inr}
 use mathlib.Core.Option.{Option, none, some}
 use native.Mathlib.Omega.{arith}
-use borrow.Author.Tests.{le-leb, lt-leb, leb-true, eq-eqb, ne_eqb, eqb-true, eqb-false}
+use borrow.Author.Tests.{leb-true, eq-eqb, eqb-true, eqb-false}
 use lib.Dec.{leb, eqb}
-use lib.IntN.{ℤ}
 use lib.ListN.{length, take, drop}
 use Rattle.wire.specs.RuleWords.{every, unless}
 use Rattle.packing.specs.Packing.{bytes_for, packed}
@@ -16,12 +15,14 @@ use Rattle.packing.proofs.Laws.{length_packed}
 use Rattle.layout.specs.Layout.{section_bytes, zero_reserved, leads_data, streams_data, record_bytes}
 use Rattle.layout.proofs.Laws.{length_leads_data, length_record_bytes}
 use Rattle.encode.specs.Encoding.{work_searched}
-use Rattle.compose.specs.declared.Written.{Written}
-use Rattle.compose.specs.declared.Head.{Head}
-use Rattle.compose.specs.Writing.{Job, job_of, job_refusal, cut, packed_all, all_short, record_of, record_refusal, written_as, record_out}
+use Rattle.refusals.specs.declared.Refusal.{Refusal}
+use Rattle.refusals.specs.declared.Refusal.TheVariants.{Length, RecordCheck, Section0, Placement, SectionCheck, HeaderFields, CodeTables, LeadSections, Disagreement, NotFound, Room, NoValue, OutOfRange, LeftOver, NoCode, TooLong, Request, Date, Index}
+use Rattle.refusals.specs.Refusals.{number_of, refusal_in}
+use Rattle.std.specs.Prelude.{Result, Ok, Err}
+use Rattle.compose.specs.Writing.{Job, job_refusal, cut, packed_all, all_short, record_of, record_refusal, written_as, record_out}
 use Rattle.compose.specs.Writing.{RecordWriting, refused, answered}
 use Rattle.compose.specs.InnerSizes.{number_with, number_for, SizedAs}
-use Rattle.compose.specs.InnerJob.{front_size, size_with, refusal_for, answer_of, Streamed}
+use Rattle.compose.specs.InnerJob.{front_size, size_with, refusal_for, written, Streamed}
 use Rattle.compose.proofs.Laws.{job_listed}
 use Rattle.compose.proofs.Streams.{sizes_streams}
 use Rattle.compose.proofs.Lengths.{length_data, size_parts}
@@ -72,35 +73,27 @@ nothing_refused number size room = go (eqb number 0) refl (leb size 1048576) ref
     go true e false f r g z = absurd (omega arith)
     go false e s f r g z = absurd (eqb-false number 0 e z)
 
--- what is answered where nothing is refused
-pub answer_zero : (number size room : ℕ) (r : Written) → r ≡ answer_of (refusal_for number size room) size → r.refusal ≡ 0
-    → (refusal_for number size room ≡ 0) × (r.bytes ≡ size)
-answer_zero number size room r = go (refusal_for number size room)
-  where
-    go : (n : ℕ) → r ≡ answer_of n size → r.refusal ≡ 0 → (n ≡ 0) × (r.bytes ≡ size)
-    go zero e z = (refl, ap (λ (w : Written). w.bytes) e)
-    go (suc n) e z = absurd (omega (arith, ap (λ (w : Written). w.refusal) e))
-
--- what is answered, by the record's length up to 1,048,577
-module _ (number size room : ℕ) where
-  pub judged_number : (number ≡ 0 → ⊥) → record { refusal = number; bytes = 0 } ≡ answer_of (refusal_for number size room) size
-  judged_number h = rw (ne_eqb number 0 h) (go number h)
-    where
-      go : (n : ℕ) → (n ≡ 0 → ⊥) → record { refusal = n; bytes = 0 } ≡ answer_of n size
-      go zero g = absurd (g refl)
-      go (suc n) g = refl
-
-  module _ (z : number ≡ 0) (m : ℕ) (is : m ≡ min 1048577 size) where
-    pub judged_long : 1048576 < m → record { refusal = 16; bytes = 0 } ≡ answer_of (refusal_for number size room) size
-    judged_long l = rw (eq-eqb number 0 z, lt-leb size 1048576 (omega arith))
-
-    pub judged_room : m ≤ 1048576 → room < m → record { refusal = 11; bytes = 0 } ≡ answer_of (refusal_for number size room) size
-    judged_room l g = rw (eq-eqb number 0 z, le-leb size 1048576 (omega arith), lt-leb size room (omega arith))
-
-    pub judged_fits : m ≤ 1048576 → m ≤ room → record { refusal = 0; bytes = m } ≡ answer_of (refusal_for number size room) size
-    judged_fits l g =
-        let e : m ≡ size = omega arith in
-        rw (eq-eqb number 0 z, ← e, le-leb m 1048576 l, le-leb m room g)
+-- no refusal has the number 0
+pub refused_some : (e : Refusal) → (n : ℕ) × (number_of e ≡ suc n)
+refused_some Length = (0, refl)
+refused_some RecordCheck = (1, refl)
+refused_some Section0 = (2, refl)
+refused_some Placement = (3, refl)
+refused_some SectionCheck = (4, refl)
+refused_some HeaderFields = (5, refl)
+refused_some CodeTables = (6, refl)
+refused_some LeadSections = (7, refl)
+refused_some Disagreement = (8, refl)
+refused_some NotFound = (9, refl)
+refused_some Room = (10, refl)
+refused_some NoValue = (11, refl)
+refused_some OutOfRange = (12, refl)
+refused_some LeftOver = (13, refl)
+refused_some NoCode = (14, refl)
+refused_some TooLong = (15, refl)
+refused_some Request = (16, refl)
+refused_some Date = (23, refl)
+refused_some Index = (25, refl)
 
 module _ (j : Job) (sizes : List ℕ) (number : ℕ) (firsts : length j.firsts ≡ length j.counts)
     (ids : length j.ids ≡ length j.counts) (long : length sizes ≡ length j.counts)
@@ -139,75 +132,62 @@ module _ (j : Job) (sizes : List ℕ) (number : ℕ) (firsts : length j.firsts �
 -- ---- the job
 
 module _ (j : Job) (work out : List ℕ) where
-  pub wrote_refused : (n : ℕ) (r : Written) → n ≡ job_refusal j (length work) → (n ≡ 0 → ⊥) → r ≡ record { refusal = n; bytes = 0 }
-      → RecordWriting j work out r work out
-  wrote_refused zero r e h f = absurd (h refl)
-  wrote_refused (suc m) r e h f = rw f (refused m (sym e))
+  -- refused before the search
+  pub wrote_refused : (e : Refusal) → number_of e ≡ job_refusal j (length work) → RecordWriting j work out (written (Err e)) work out
+  wrote_refused e is =
+      let n = refused_some e in
+      rw n.1 (refused n.0 (sym is ∙ n.1))
 
-module _ (s1 s2 : List ℕ) (head : Head) (firsts counts ids : List ℕ) (xs : List ℤ) (work out : List ℕ)
-    (asked : job_refusal (job_of s1 s2 head firsts counts ids xs) (length work) ≡ 0)
-    (r : Written) (mid : List ℕ) (F : Streamed (length s1) s2 head counts xs out r mid) where
-  abbrev j : Job
-  j = job_of s1 s2 head firsts counts ids xs
+module _ (j : Job) (work out : List ℕ) (asked : job_refusal j (length work) ≡ 0) (work' : List ℕ) (cleared : work' ≡ work_searched j.section2 work)
+    (mid : List ℕ) where
+  module _ {r : Result ℕ Refusal} (F : Streamed j out r mid) where
+    abbrev long : ℕ
+    long = size_with (length j.section1) (length j.section2) F.sizes
 
-  abbrev founds : List (Option (List ℕ))
-  founds = F.sized.founds
+    abbrev founds : List (Option (List ℕ))
+    founds = F.sized.founds
 
-  decided : refusal_for F.number (size_with (length s1) (length s2) F.sizes) (length out)
-      ≡ record_refusal j (length out) (packed_all founds)
-  decided =
-      let l = job_listed j (length work) asked in
-      refusal_is j F.sizes F.number l.0 l.1 F.each F.sized (length out)
+    decided : refusal_in r ≡ record_refusal j (length out) (packed_all founds)
+    decided =
+        let l = job_listed j (length work) asked in
+        F.answer ∙ refusal_is j F.sizes F.number l.0 l.1 F.each F.sized (length out)
 
-  searched_as : (n : ℕ) → record_refusal j (length out) (packed_all founds) ≡ n
-      → RecordWriting j work out (written_as j n (packed_all founds)) (work_searched s2 work) (record_out j n (packed_all founds) out)
-  searched_as n is = rw (← is) (answered founds asked F.sized.all)
+    searched_as : (n : ℕ) → refusal_in r ≡ n
+        → RecordWriting j work out (written_as j n (packed_all founds)) work' (record_out j n (packed_all founds) out)
+    searched_as n is = rw (cleared, sym is ∙ decided) (answered founds asked F.sized.all)
 
   -- a refusal
-  pub wrote_judged : (r.refusal ≡ 0 → ⊥) → (work' : List ℕ) → work' ≡ work_searched s2 work → RecordWriting j work out r work' mid
-  wrote_judged h work' cleared =
-      rw (cleared, F.same h) (go (record_refusal j (length out) (packed_all founds)) refl (rw decided at F.answer))
-    where
-      go : (n : ℕ) → record_refusal j (length out) (packed_all founds) ≡ n
-          → r ≡ answer_of n (size_with (length s1) (length s2) F.sizes) → RecordWriting j work out r (work_searched s2 work) out
-      go zero is e = absurd (h (ap (λ (w : Written). w.refusal) e))
-      go (suc n) is e = rw e (searched_as (suc n) is)
-
-  -- nothing is refused, and the record's length is answered
-  asked_none : r.refusal ≡ 0 → (refusal_for F.number (size_with (length s1) (length s2) F.sizes) (length out) ≡ 0)
-      × (r.bytes ≡ size_with (length s1) (length s2) F.sizes)
-  asked_none = answer_zero F.number (size_with (length s1) (length s2) F.sizes) (length out) r F.answer
+  pub wrote_judged : (e : Refusal) → Streamed j out (Err e) mid → RecordWriting j work out (written (Err e)) work' mid
+  wrote_judged e F =
+      let n = refused_some e in
+      rw (F.same, n.1) (searched_as F (suc n.0) n.1)
 
   -- the record has room, and Section 6 lies within it
-  pub put_room : r.refusal ≡ 0
-      → (front_size (length s1) (length s2) (length counts) ≤ r.bytes) × (r.bytes ≤ 1048576) × (r.bytes ≤ length out)
-  put_room z =
-      let a = asked_none z in
-      let w = nothing_refused F.number (size_with (length s1) (length s2) F.sizes) (length out) a.0 in
-      let e = size_parts (length s1) (length s2) (length counts) F.sizes F.each in
-      (omega (arith, a.1, e), omega (arith, a.1, w.1), omega (arith, a.1, w.2))
+  pub put_room : (bytes : ℕ) → Streamed j out (Ok bytes) mid
+      → (front_size (length j.section1) (length j.section2) (length j.counts) ≤ bytes) × (bytes ≤ 1048576) × (bytes ≤ length out)
+  put_room bytes F =
+      let w = nothing_refused F.number (long F) (length out) (sym F.answer) in
+      let e = size_parts (length j.section1) (length j.section2) (length j.counts) F.sizes F.each in
+      (omega (arith, F.put.0, e), omega (arith, F.put.0, w.1), omega (arith, F.put.0, w.2))
 
   -- the record
-  pub wrote_put : r.refusal ≡ 0 → (work' ys : List ℕ) → work' ≡ work_searched s2 work
-      → ((data6 : List ℕ) → drop (front_size (length s1) (length s2) (length counts)) (take r.bytes mid)
-      ≡ section_bytes 6 head.version zero_reserved data6
-      → ys ≡ record_bytes head.version s1 s2 (leads_data head.flags firsts counts ids) data6)
-      → RecordWriting j work out r work' (ys ++ drop r.bytes mid)
+  pub wrote_put : (bytes : ℕ) → Streamed j out (Ok bytes) mid → (ys : List ℕ)
+      → ((data6 : List ℕ) → drop (front_size (length j.section1) (length j.section2) (length j.counts)) (take bytes mid)
+      ≡ section_bytes 6 j.version zero_reserved data6
+      → ys ≡ record_bytes j.version j.section1 j.section2 (leads_data j.flags j.firsts j.counts j.ids) data6)
+      → RecordWriting j work out (written (Ok bytes)) work' (ys ++ drop bytes mid)
   unfolding record_of
-  wrote_put z work' ys cleared whole = rw cleared (go (judged founds))
+  wrote_put bytes F ys whole = go (judged F.sized.founds)
     where
       none_asked : F.number ≡ 0
-      none_asked = (nothing_refused F.number (size_with (length s1) (length s2) F.sizes) (length out) (asked_none z).0).0
+      none_asked = (nothing_refused F.number (long F) (length out) (sym F.answer)).0
 
-      go : Judged founds → RecordWriting j work out r (work_searched s2 work) (ys ++ drop r.bytes mid)
+      go : Judged F.sized.founds → RecordWriting j work out (written (Ok bytes)) work' (ys ++ drop bytes mid)
       go (inl (f, n)) = absurd (omega (arith, none_asked, F.sized.says ∙ n))
       go (inr (streams, f, n)) =
           let l = job_listed j (length work) asked in
-          let a = asked_none z in
-          let long : r.bytes ≡ length (record_of j streams) =
-          a.1 ∙ sym (length_record j F.sizes F.number l.0 l.1 F.each F.sized streams none_asked f) in
+          let same : bytes ≡ length (record_of j streams) =
+          F.put.0 ∙ sym (length_record j F.sizes F.number l.0 l.1 F.each F.sized streams none_asked f) in
           let put : ys ≡ record_of j streams =
-          whole (streams_data head.step head.interval head.order streams) ((F.put z).1 streams (founds, F.sized.all, f)) in
-          let answer : r ≡ record { refusal = 0; bytes = length (record_of j streams) } =
-          F.answer ∙ ap₂ answer_of a.0 (sym a.1 ∙ long) in
-          rw (put, (F.put z).0, long, answer) (rw f at (searched_as 0 (sym decided ∙ a.0)))
+          whole (streams_data j.step j.interval j.order streams) (F.put.1.1 streams (F.sized.founds, F.sized.all, f)) in
+          rw (put, F.put.1.0, same) (rw f at (searched_as F 0 refl))

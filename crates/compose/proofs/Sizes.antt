@@ -1,12 +1,13 @@
 -- The results of the search for the leads, one by one from the last back, and what they say of all. Assumes nothing.
-use Prim.Native.Nat.{ℕ, zero, suc, ◌+◌, ◌-◌, ◌<◌, ◌≤◌}
-use mathlib.Core.Path.{◌≡◌, refl, ap, ◌∙◌}
+use Prim.Native.Nat.{ℕ, zero, suc, ◌+◌, ◌-◌, ◌<◌, ◌≤◌, min, max}
+use mathlib.Core.Path.{◌≡◌, refl, sym, ap, ◌∙◌}
 use mathlib.Core.Bool.{Bool, true, false, cond}
 use mathlib.Core.List.{List, [], ◌∷◌}
 use mathlib.Core.Option.{Option, none, some}
 use native.Mathlib.Omega.{arith}
-use borrow.Author.Tests.{le-leb, lt-leb, leb-true, leb-false, eq-eqb, ne_eqb}
-use lib.Dec.{leb}
+use borrow.Author.Tests.{le-leb, lt-leb, leb-true, leb-false, lt-ltb, ltb-true, ltb-false}
+use lib.Dec.{leb, ltb, eqb}
+use Rattle.wire.specs.RuleWords.{unless}
 use lib.IntN.{ℤ}
 use lib.ListN.{length, get_or, take, drop, set, length-set, length-drop}
 use lib.Seq.{drop-cons, drop-drop, drop-length, drop-set-lt, get_or-set_same, length-take-le}
@@ -16,27 +17,36 @@ use Rattle.samples.specs.Differences.{differences}
 use Rattle.encode.specs.Encoding.{tables_given}
 use Rattle.encode.specs.InnerEncode.{bits_found, Sized}
 use Rattle.compose.specs.Writing.{total, longest, cut, done, lead}
-use Rattle.compose.specs.InnerSizes.{number_with, number_for, SizedAs}
+use Rattle.compose.specs.InnerSizes.{number_with, number_at, number_for, SizedAs}
 use Rattle.compose.proofs.Laws.{back_cons}
 
 -- ---- one lead's number
 
-pub number_none : (bits later : ℕ) → 524281 < bits → (found : Option (List ℕ)) → bits ≡ bits_found found → 15 ≡ number_with found later
-number_none bits later h none e = refl
-number_none bits later h (some bs) e = absurd (omega arith)
+at_more : (most : ℕ) → 524281 < most → number_at most ≡ 15
+at_more most h = rw (lt-leb most 524281 h)
 
-pub number_short : (bits later : ℕ) → bits < 524281 → (found : Option (List ℕ)) → bits ≡ bits_found found → later ≡ number_with found later
-number_short bits later h none e = absurd (omega arith)
-number_short bits later h (some bs) e = rw (le-leb (bytes_for (length bs)) 65535 (omega arith))
+at_cap : (most : ℕ) → most ≡ 524281 → number_at most ≡ 16
+at_cap most h = rw h
 
-module _ (bits later : ℕ) (h : bits ≤ 524281) (g : 524281 ≤ bits) where
-  pub number_both : later ≡ 15 → (found : Option (List ℕ)) → bits ≡ bits_found found → 15 ≡ number_with found later
-  number_both z none e = refl
-  number_both z (some bs) e = rw (lt-leb (bytes_for (length bs)) 65535 (omega arith), eq-eqb later 15 z)
+at_less : (most : ℕ) → most < 524281 → number_at most ≡ 0
+at_less most h = rw (le-leb most 524281 (omega arith), lt-ltb most 524281 h)
 
-  pub number_long : (later ≡ 15 → ⊥) → (found : Option (List ℕ)) → bits ≡ bits_found found → 16 ≡ number_with found later
-  number_long z none e = absurd (omega arith)
-  number_long z (some bs) e = rw (lt-leb (bytes_for (length bs)) 65535 (omega arith), ne_eqb later 15 z)
+-- with one lead more, the most bits that are found decide
+number_more : (most : ℕ) (found : Option (List ℕ)) → number_with found (number_at most) ≡ number_at (max most (bits_found found))
+number_more most none = sym (at_more (max most 524282) (omega arith))
+number_more most (some bs) = go (leb most 524281) refl (ltb most 524281) refl (leb (bytes_for (length bs)) 65535) refl
+  where
+    go : (a : Bool) → leb most 524281 ≡ a → (b : Bool) → ltb most 524281 ≡ b → (s : Bool) → leb (bytes_for (length bs)) 65535 ≡ s
+        → cond s (unless a 15 (unless b 16 0)) (cond (eqb (unless a 15 (unless b 16 0)) 15) 15 16)
+        ≡ number_at (max most (min 524281 (length bs)))
+    go false e b f true g = sym (at_more (max most (min 524281 (length bs))) (omega (arith, leb-false most 524281 e)))
+    go false e b f false g = sym (at_more (max most (min 524281 (length bs))) (omega (arith, leb-false most 524281 e)))
+    go true e false f true g =
+        sym (at_cap (max most (min 524281 (length bs))) (omega (arith, leb-true most 524281 e, ltb-false most 524281 f, leb-true (bytes_for (length bs)) 65535 g)))
+    go true e false f false g = sym (at_cap (max most (min 524281 (length bs))) (omega (arith, leb-true most 524281 e, ltb-false most 524281 f)))
+    go true e true f true g = sym (at_less (max most (min 524281 (length bs))) (omega (arith, ltb-true most 524281 f, leb-true (bytes_for (length bs)) 65535 g)))
+    go true e true f false g =
+        sym (at_cap (max most (min 524281 (length bs))) (omega (arith, ltb-true most 524281 f, leb-false (bytes_for (length bs)) 65535 g)))
 
 -- ---- the leads from the last back
 
@@ -110,17 +120,16 @@ module _ (counts : List ℕ) (k : ℕ) (h : 0 < k) (g : k ≤ length counts) whe
         ap length (lent xs) ∙ length-take-le c (drop (at - c) xs) (rw (length-drop (at - c) xs) (omega (arith, room_back, total_back)))
 
     -- one lead more is sized
-    pub sized_more : (s2 : List ℕ) (order : ℕ) (xs : List ℤ) (number number' bits : ℕ) (sizes : List ℕ) → length counts ≤ length sizes
-        → SizedAs s2 order (cut (drop k counts) (drop at xs)) number (take (length counts - k) (drop k sizes))
+    pub sized_more : (s2 : List ℕ) (order : ℕ) (xs : List ℤ) (most bits : ℕ) (sizes : List ℕ) → length counts ≤ length sizes
+        → SizedAs s2 order (cut (drop k counts) (drop at xs)) (number_at most) (take (length counts - k) (drop k sizes))
         → let c = get_or counts (k - 1) 0 in Sized (tables_given s2) (differences order (take (at - (at - c)) (drop (at - c) xs))) bits
-        → ((found : Option (List ℕ)) → bits ≡ bits_found found → number' ≡ number_with found number)
-        → SizedAs s2 order (cut (drop (k - 1) counts) (drop (at - c) xs)) number'
+        → SizedAs s2 order (cut (drop (k - 1) counts) (drop (at - c) xs)) (number_at (max most bits))
         (take (length counts - (k - 1)) (drop (k - 1) (set sizes (k - 1) (bytes_for bits))))
     unfolding number_for
-    sized_more s2 order xs number number' bits sizes room S F answer = rw (cut_back xs, sizes_back sizes room (bytes_for bits)) record {
+    sized_more s2 order xs most bits sizes room S F = rw (cut_back xs, sizes_back sizes room (bytes_for bits)) record {
       founds = F.0 ∷ S.founds;
       all = lead (rw (lent xs) at F.1) S.all;
-      says = answer F.0 F.2 ∙ ap (number_with F.0) S.says;
+      says = rw F.2 (sym (number_more most F.0)) ∙ ap (number_with F.0) S.says;
       each = rw (← F.2, S.each);
     }
 

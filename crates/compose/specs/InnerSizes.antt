@@ -1,5 +1,7 @@
 -- The sizes of the leads' streams, before any is written. No public contract rests on this.
-use Rattle.std.specs.Prelude.{ℕ, ◌≤◌, ◌≡◌, cond, List, [], ◌∷◌, map, leb, eqb, ℤ, length}
+use Rattle.std.specs.Prelude.{ℕ, ◌≤◌, ◌≡◌, cond, List, [], ◌∷◌, map, leb, ltb, eqb, ℤ, length}
+use Rattle.wire.specs.RuleWords.{unless}
+use Rattle.search.specs.InnerSearch.{cap}
 use Rattle.std.proofs.Math.Option.{Option, none, some}
 use Rattle.packing.specs.Packing.{bytes_for}
 use Rattle.samples.specs.Differences.{differences}
@@ -20,6 +22,10 @@ number_with (some bs) later = cond (leb (bytes_for (length bs)) 65535) later (co
 unfoldable pub number_for : List (Option (List ℕ)) → ℕ
 number_for [] = 0
 number_for (found ∷ founds) = number_with found (number_for founds)
+
+-- the same by the most bits that are found for a lead
+abbrev pub number_at : ℕ → ℕ
+number_at most = unless (leb most cap) 15 (unless (ltb most cap) 16 0)
 
 -- the number and the sizes are those of what is found for the leads
 pub record SizedAs (s2 : List ℕ) (order : ℕ) (xss : List (List ℤ)) (number : ℕ) (sizes : List ℕ) : Type 0 where

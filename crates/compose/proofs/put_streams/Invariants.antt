@@ -1,5 +1,5 @@
 -- The leads from k on are put; their samples begin at at, their streams at from.
-use Prim.Native.Nat.{ℕ, ◌+◌, ◌≤◌}
+use Prim.Native.Nat.{ℕ, ◌+◌}
 use mathlib.Core.Path.{◌≡◌}
 use mathlib.Core.List.{List}
 use lib.ListN.{length, drop}
@@ -9,10 +9,9 @@ use Rattle.compose.specs.InnerSizes.{StreamsFor}
 use Rattle.compose.proofs.put_streams.Given as goal
 
 abbrev pub invariant-loop-k : goal.invariant-loop-k
-invariant-loop-k l = (l.k ≤ length l.counts) ×
-    (l.at + total (drop l.k l.counts) ≡ length l.xs) × (l.from + total (drop l.k l.sizes) ≡ length l.initial.part) × (length l.work ≡ length l.initial.work) ×
-    (length l.part ≡ length l.initial.part) × ((streams : List (List ℕ)) → StreamsFor l.section2 l.order (cut (drop l.k l.counts) (drop l.at l.xs)) streams
-    → drop l.from l.part ≡ joined streams) × (length l.tab ≡ 0 → l.work ≡ l.initial.work)
-
-abbrev pub decreases-loop-k : goal.decreases-loop-k
-decreases-loop-k l = l.k
+invariant-loop-k l =
+    (l.at + total (drop l.k l.job.counts.now) ≡ length l.job.samples.now)
+    × (l.from + total (drop l.k l.sizes) ≡ length l.initial.part)
+    × ((streams : List (List ℕ)) → StreamsFor l.job.section2.now l.job.head.order (cut (drop l.k l.job.counts.now) (drop l.at l.job.samples.now)) streams
+    → drop l.from l.part ≡ joined streams)
+    × (length l.tab ≡ 0 → l.work ≡ l.initial.work)

@@ -3,35 +3,13 @@ use Prim.Native.Nat.{◌+◌, ◌-◌, ◌*◌}
 use mathlib.Core.Path.{◌≡◌, refl, ap, ◌∙◌}
 use native.Mathlib.Omega.{arith}
 use lib.ListN.{length}
-use borrow.Rule.Slice.PartMut.{put_mid, mid_len, same_len_mid}
+use borrow.Rule.Slice.PartMut.{put_mid, same_len_mid}
 use Rattle.layout.specs.Layout.{streams_data}
 use Rattle.layout.proofs.Record.{section6_put}
 use Rattle.compose.specs.Writing.{total}
 use Rattle.compose.proofs.Streams.{sizes_streams}
 use Rattle.compose.proofs.Lengths.{total_joined, section6_size}
 use Rattle.compose.proofs.write_streams.Goals as goal
-
-pub put_streams-requires : goal.put_streams-requires
-put_streams-requires c = let a = c.args in
-    let p = c.requires in
-    let t = c.total_of in
-    let h = c.write_streams_head in
-    let from = 22 + 2 * length a.sizes.now in
-    let m = mid_len from (from + t.result) h.new.part (omega (arith, h.auto.part, p.counts_len_bound.4, t.ensures.0)) in
-    record { sound = p.sound; sizes_len = (p.counts_len_bound.2, omega (arith, m, t.ensures.0), p.counts_len_bound.3) }
-
-pub put_spare-requires : goal.put_spare-requires
-put_spare-requires c =
-    let t = c.total_of in
-    let h = c.write_streams_head in
-    let b = c.put_streams in
-    let from = 22 + 2 * length c.args.sizes.now in
-    let e = same_len_mid from (from + t.result - from) h.new.part b.new.part b.auto.part in
-    (omega (arith, e, h.auto.part, c.requires.counts_len_bound.4, t.ensures.0), omega (arith, e, h.auto.part, c.requires.counts_len_bound.4, t.ensures.0))
-
-pub shape_of-work : goal.shape_of-work
-shape_of-work c =
-    c.put_streams.auto.work
 
 pub returns : goal.returns
 returns c =
@@ -50,12 +28,12 @@ returns c =
     ∙ h.auto.part in (
       λ streams found.
           let are = sizes_streams p.counts_len_bound.3 found in
-          let size = section6_size a.head.step a.head.interval a.head.order a.sizes.now streams are p.counts_len_bound.4 in
+          let size = section6_size a.job.now.head.step a.job.now.head.interval a.job.now.head.order a.sizes.now streams are p.counts_len_bound.4 in
           let put = b.ensures.0 streams found in
           let stop : from + t.result ≡ from + length zs = omega (arith, t.ensures.0, ap total are, total_joined streams, ap length put) in
-          let even = section6_put a.head.step a.head.interval a.head.order a.sizes.now streams are
+          let even = section6_put a.job.now.head.step a.job.now.head.interval a.job.now.head.order a.sizes.now streams are
           a.part.now x y z zs from (from + t.result) refl stop size h.ensures refl put long s.ensures in
-          c.seal.ensures.by_index (streams_data a.head.step a.head.interval a.head.order streams) even
+          c.seal.ensures.by_index (streams_data a.job.now.head.step a.job.now.head.interval a.job.now.head.order streams) even
           (s.auto.part ∙ long ∙ size),
       b.ensures.1,
     )
