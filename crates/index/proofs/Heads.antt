@@ -104,6 +104,13 @@ entry_by t h =
     (date_right (head_number t 22 4) (head_number t 26 5))
     (leb (head_number t 31 8) most_leads))
 
+-- as numbers that are found to be its own, and as its bytes are asked
+pub entry_asked : (t : List ℕ) (size month day leads last : ℕ) (free : Bool) → size ≡ head_number t 0 6 → month ≡ head_number t 22 4
+    → day ≡ head_number t 26 5 → leads ≡ head_number t 31 8 → last ≡ head_number t 39 1 → head_size + size ≤ length t
+    → free ≡ every not_nul (take size (drop head_size t)) → head_right size month day leads last && free ≡ is_entry t
+entry_asked t size month day leads last free n m d l z fits f =
+    rw (f, n, m, d, l, z) (sym (entry_by t (omega (arith, fits, n))))
+
 -- where they are not, there is no entry
 pub entry_cut : (t : List ℕ) → length t < head_size + head_number t 0 6 → is_entry t ≡ false
 unfolding is_entry

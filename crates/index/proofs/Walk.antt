@@ -166,6 +166,11 @@ pub going_whole : (rule : Entry → Bool) (s : List ℕ) (from at : ℕ) → Goi
 going_whole rule s from at g w =
     omega (arith, g.place, w, ap bytes_in g.rest, bytes_split rule (entries_in (drop at s)), bytes_split rule (entries_in (drop from s)))
 
+-- so they do behind an entry
+pub whole_on : (s : List ℕ) (at : ℕ) (e : IndexEntry) → Whole s at → Shown s at e → Whole s e.next
+unfolding bytes_in
+whole_on s at e w shown = let n = rw shown.entries at w in omega (arith, shown.size)
+
 -- ---- judging
 
 -- all entries up to one were judged: those behind it decide

@@ -1,7 +1,6 @@
 -- What an index is, and looking up an identifier in it (02, Q-13).
-use Rattle.std.specs.Prelude.{ℕ, zero, suc, ◌+◌, Bool, not, ◌&&◌, cond, List, [], ◌∷◌, ◌++◌, leb, eqb, length, take, drop}
-use Rattle.fields.specs.declared.Place.{Place}
-use Rattle.fields.specs.declared.Place.TheVariants.{At, Refused}
+use Rattle.std.specs.Prelude.{ℕ, zero, suc, ◌+◌, Bool, not, ◌&&◌, cond, List, [], ◌∷◌, ◌++◌, leb, eqb, length, take, drop, Result, Ok, Err}
+use Rattle.fields.specs.declared.Part.{Part}
 use Rattle.fields.specs.Identifier.{same}
 use Rattle.index.specs.Entry.{Entry, entry_bytes, entry_size, entry_in, is_entry}
 use Rattle.index.specs.Order.{less, before, in_order}
@@ -58,13 +57,13 @@ abbrev pub has : List ℕ → Entry → Bool
 has id e = same e.identifier id
 
 -- a part of `size` bytes from a place on; an empty one is at place 0
-abbrev pub part_or_none : ℕ → ℕ → Place
-part_or_none start size = cond (eqb size 0) (At 0 0) (At start size)
+abbrev pub part_or_none : ℕ → ℕ → Result Part ℕ
+part_or_none start size = cond (eqb size 0) (Ok (record { start = 0; size = 0 })) (Ok (record { start = start; size = size }))
 
 -- the part of the index with the entries of an identifier: in order, the entries of smaller ones are before them
-unfoldable pub found : List ℕ → List Entry → Place
+unfoldable pub found : List ℕ → List Entry → Result Part ℕ
 found id es = part_or_none (bytes_in (front (smaller id) es)) (bytes_in (front (has id) (behind (smaller id) es)))
 
 -- looking up an identifier: refused where the bytes in use are no index
-unfoldable pub find_place : List ℕ → ℕ → List ℕ → Place
-find_place lent used id = cond (index_right lent used) (found id (entries_in (take used lent))) (Refused 26)
+unfoldable pub find_place : List ℕ → ℕ → List ℕ → Result Part ℕ
+find_place lent used id = cond (index_right lent used) (found id (entries_in (take used lent))) (Err 26)

@@ -17,6 +17,10 @@ head_right size month day leads last = leb 1 size && (date_right month day && (l
 abbrev pub seen : List ℕ → IndexEntry → Entry
 seen s e = record { identifier = part s e.start e.next; year = e.year; month = e.month; day = e.day; leads = e.leads }
 
+-- the date that a step shows
+abbrev pub date_shown : IndexEntry → Date
+date_shown e = record { year = e.year; month = e.month; day = e.day }
+
 -- a date in the order of its numbers
 abbrev pub date_in : Date → List ℕ
 date_in d = d.year ∷ d.month ∷ d.day ∷ []

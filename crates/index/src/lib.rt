@@ -2,16 +2,20 @@
 // entries (refusal 26). Every byte string and every place is answered.
 #![tactic(auto)]
 
-ghost use Rattle.std.specs.Prelude.{◌≡◌, [], true, ◌+◌, ◌≤◌, min, length, take, drop};
+ghost use Rattle.std.specs.Prelude.{◌≡◌, true, Bool, ◌+◌, ◌≤◌, length, take, drop, IfOk};
+ghost use Rattle.refusals.specs.Refusals.{refusal_in, numbered};
 ghost use Rattle.bits.specs.Bits.{bits_in};
 ghost use Rattle.bits.specs.InnerWindow.{Window};
 ghost use Rattle.fields.specs.Lookup.{refusal_of, part_start, part_bytes};
-ghost use Rattle.index.specs.Entry.{date_right, is_entry, none_at, entry_at};
-ghost use Rattle.index.specs.Order.{less, date_of, before};
-ghost use Rattle.index.specs.Index.{is_index, index_right, smaller, has, find_place};
-ghost use Rattle.index.specs.InnerSteps.{head_right, seen, date_in, before_by, Whole, Passed};
+ghost use Rattle.wire.specs.Numbers.{part};
+ghost use Rattle.index.specs.declared.IndexEntry.{IndexEntry};
+ghost use Rattle.index.specs.Entry.{Entry, date_right, is_entry, none_at, entry_at};
+ghost use Rattle.index.specs.Order.{before};
+ghost use Rattle.index.specs.Index.{is_index, index_right, find_place};
+ghost use Rattle.index.specs.InnerSteps.{head_right, date_shown, seen, before_by, Whole, Passed};
 
-use fields::Place;
+use fields::Part;
+use refusals::Refusal;
 
 // An entry as a step shows it: its numbers, where its identifier is, and the place behind it; `more` is 0 where there is none.
 #[repr(C)]
@@ -27,8 +31,8 @@ pub struct IndexEntry {
     pub next: usize,
 }
 
-// The day of a recording.
-#[derive(Clone, Copy)]
+// The day of a recording: the first of year, month and day that differ puts one before another.
+#[derive(Clone, Copy, PartialEq, Eq, PartialOrd, Ord)]
 pub struct Date {
     pub year: u16,
     pub month: u8,
@@ -50,66 +54,38 @@ fn head_at(s: &[u8], at: usize) -> u64
 }
 
 // The numbers of these bytes keep their rules.
+#[tactic(auto, unfolding(crate::specs::InnerSteps::head_right))]
 fn head_right(size: usize, month: usize, day: usize, leads: usize, last: usize) -> bool
     ensures { result ≡ head_right size month day leads last }
 {
-    if size < 1 {
-        return false;
-    }
-    if !date_right(month, day) {
-        return false;
-    }
-    if 32 < leads {
-        return false;
-    }
-    if last != 0 {
-        return false;
-    }
-    true
+    1 <= size && date_right(month, day) && leads <= 32 && last == 0
 }
 
 // A month is 1 to 12, a day 1 to 31.
+#[tactic(auto, unfolding(crate::specs::Entry::date_right))]
 pub fn date_right(month: usize, day: usize) -> bool
     ensures { result ≡ date_right month day }
 {
-    if month < 1 {
-        return false;
-    }
-    if 12 < month {
-        return false;
-    }
-    if day < 1 {
-        return false;
-    }
-    if 31 < day {
-        return false;
-    }
-    true
+    (1..=12).contains(&month) && (1..=31).contains(&day)
 }
 
 // A whole entry by the rules is at a place.
 fn is_entry(s: &[u8], at: usize) -> bool
     ensures { result ≡ is_entry (drop at s.now) }
 {
-    if s.len() <= at {
-        return false;
-    }
-    if s.len() - at < HEAD_SIZE {
+    if s.len().saturating_sub(at) < HEAD_SIZE {
         return false;
     }
     let w = head_at(s, at);
     let start = at + HEAD_SIZE;
     let size = bits::after(w, 0, 6) as usize;
-    if s.len() - start < size {
-        return false;
-    }
-    if !header::no_nul(s, start, start + size) {
-        return false;
-    }
     let month = bits::after(w, 22, 4) as usize;
     let day = bits::after(w, 26, 5) as usize;
     let leads = bits::after(w, 31, 8) as usize;
-    head_right(size, month, day, leads, bits::after(w, 39, 1) as usize)
+    let last = bits::after(w, 39, 1) as usize;
+    size <= s.len() - start
+        && header::no_nul(s, start, start + size)
+        && head_right(size, month, day, leads, last)
 }
 
 // The entry at a place where one is: in bytes that were judged, nothing is asked again.
@@ -149,36 +125,15 @@ fn none_at(at: usize) -> IndexEntry
 }
 
 // The entry at a place, if a whole one by the rules is there.
+#[tactic(auto, unfolding(crate::specs::Entry::entry_at))]
 pub fn step(s: &[u8], at: usize) -> IndexEntry
     ensures { result ≡ entry_at s.now at }
 {
-    if !is_entry(s, at) {
-        return none_at(at);
+    if is_entry(s, at) {
+        entry_at(s, at)
+    } else {
+        none_at(at)
     }
-    entry_at(s, at)
-}
-
-// One day comes before another.
-fn is_earlier(a: Date, b: Date) -> bool
-    ensures { result ≡ less (date_in a) (date_in b) }
-{
-    if a.year != b.year {
-        return a.year < b.year;
-    }
-    if a.month != b.month {
-        return a.month < b.month;
-    }
-    a.day < b.day
-}
-
-// The smaller of two lengths.
-fn shorter(a: usize, b: usize) -> usize
-    ensures { result ≡ min a b }
-{
-    if a < b {
-        return a;
-    }
-    b
 }
 
 // What is left of two identifiers, from a place within both on, and the days: the first bytes that differ decide, then which identifier ends
@@ -187,18 +142,7 @@ fn rest_before(a: &[u8], date: Date, b: &[u8], other: Date, from: usize) -> bool
     requires { (from ≤ length a.now) × (from ≤ length b.now) }
     ensures { result ≡ before_by (drop from a.now) date (drop from b.now) other }
 {
-    let n = shorter(a.len(), b.len());
-    let mut i = from;
-    while i < n {
-        if a[i] != b[i] {
-            return a[i] < b[i];
-        }
-        i += 1;
-    }
-    if a.len() != b.len() {
-        return a.len() < b.len();
-    }
-    is_earlier(date, other)
+    (&a[from..], date) < (&b[from..], other)
 }
 
 // One identifier and day come before others. Eight bytes are compared at once, as numbers with the first byte highest, as long as both have
@@ -208,7 +152,7 @@ pub fn is_before(a: &[u8], date: Date, b: &[u8], other: Date) -> bool
 {
     wire::bytes_fit(a);
     wire::bytes_fit(b);
-    let n = shorter(a.len(), b.len());
+    let n = a.len().min(b.len());
     let mut i = 0;
     while WORD_SIZE <= n - i {
         let v = bits::word(a, i);
@@ -223,7 +167,7 @@ pub fn is_before(a: &[u8], date: Date, b: &[u8], other: Date) -> bool
 
 // The day that a step shows.
 pub fn date_of(e: IndexEntry) -> Date
-    ensures { date_in result ≡ date_of (seen [] e) }
+    ensures { result ≡ date_shown e }
 {
     Date {
         year: e.year,
@@ -232,13 +176,24 @@ pub fn date_of(e: IndexEntry) -> Date
     }
 }
 
+// The identifier that a step shows of these bytes.
+pub fn identifier_of(s: &[u8], e: IndexEntry) -> &[u8]
+    ensures { result.now ≡ part s.now e.start e.next }
+{
+    wire::part_of(s, e.start, e.next)
+}
+
 // One entry that a step shows comes before another.
+#[tactic(auto, unfolding(crate::specs::Order::before))]
 fn stands_before(s: &[u8], e: IndexEntry, f: IndexEntry) -> bool
     ensures { result ≡ before (seen s.now e) (seen s.now f) }
 {
-    let a = wire::part_of(s, e.start, e.next);
-    let b = wire::part_of(s, f.start, f.next);
-    is_before(a, date_of(e), b, date_of(f))
+    is_before(
+        identifier_of(s, e),
+        date_of(e),
+        identifier_of(s, f),
+        date_of(f),
+    )
 }
 
 // Whole entries by the rules take up all bytes, in order. `last` starts as no entry: its identifier is empty, and nothing comes before that.
@@ -261,43 +216,26 @@ pub fn is_index(s: &[u8]) -> bool
 }
 
 // 26: no more bytes are in use than were lent, and these are an index.
+#[tactic(auto, unfolding(crate::specs::Index::index_right))]
 pub fn index_right(lent: &[u8], used: usize) -> bool
     ensures { result ≡ index_right lent.now used }
 {
-    if lent.len() < used {
-        return false;
-    }
-    is_index(&lent[..used])
+    used <= lent.len() && is_index(&lent[..used])
 }
 
-// The place in an index behind the entries of smaller identifiers, which are at the front.
-fn behind_smaller(s: &[u8], id: &[u8]) -> usize
-    requires { Whole s.now 0 }
-    ensures { Passed (smaller id.now) s.now 0 result }
-{
-    let mut at = 0;
-    while at < s.len() {
-        let e = entry_at(s, at);
-        // of one day, so that the identifiers decide
-        let day = date_of(e);
-        if !is_before(wire::part_of(s, e.start, e.next), day, id, day) {
-            return at;
-        }
-        at = e.next;
-    }
-    at
-}
-
-// The place behind the entries of an identifier, from a place on.
-fn behind_same(s: &[u8], from: usize, id: &[u8]) -> usize
-    requires { Whole s.now from }
-    ensures { Passed (has id.now) s.now from result }
+// The place in an index behind the entries from a place on that keep a rule.
+pub fn behind<F: Fn(IndexEntry) -> bool>(s: &[u8], from: usize, keeps: F) -> usize
+    requires whole { Whole s.now from }
+    requires callable { F.IsAlwaysCallable keeps }
+    ensures passed { (rule : Entry → Bool)
+        → ((e : IndexEntry) (b : Bool) → F.post keeps e b → b ≡ rule (seen s.now e))
+        → Passed rule s.now from result }
+    ensures whole { Whole s.now result }
 {
     let mut at = from;
     while at < s.len() {
         let e = entry_at(s, at);
-        let own = wire::part_of(s, e.start, e.next);
-        if !fields::same_identifier(own, id) {
+        if !keeps(e) {
             return at;
         }
         at = e.next;
@@ -305,38 +243,41 @@ fn behind_same(s: &[u8], from: usize, id: &[u8]) -> usize
     at
 }
 
-// Where the entries of an identifier are in the index.
-pub fn find_place(lent: &[u8], used: usize, id: &[u8]) -> Place
-    ensures { result ≡ find_place lent.now used id.now }
+// Where the entries of an identifier are in the index, those of smaller ones before them; none are at place 0.
+#[tactic(auto, using(crate::proofs::Found::places), unfolding(crate::specs::Index::find_place))]
+pub fn find_place(lent: &[u8], used: usize, id: &[u8]) -> Result<Part, Refusal>
+    ensures { numbered result ≡ find_place lent.now used id.now }
 {
-    if !index_right(lent, used) {
-        return Place::Refused(26);
+    Refusal::Index.unless(index_right(lent, used))?;
+    let s = &lent[..used];
+    // of one day, so that the identifiers decide
+    let start = behind(
+        s,
+        0,
+        |e| is_before(identifier_of(s, e), date_of(e), id, date_of(e)),
+    );
+    let end = behind(
+        s,
+        start,
+        |e| fields::same_identifier(identifier_of(s, e), id),
+    );
+    if start < end {
+        Ok(Part {
+            start,
+            size: end - start,
+        })
+    } else {
+        Ok(Part { start: 0, size: 0 })
     }
-    let s = wire::part_of(lent, 0, used);
-    let start = behind_smaller(s, id);
-    let end = behind_same(s, start, id);
-    if end <= start {
-        return Place::At(0, 0);
-    }
-    Place::At(start, end - start)
 }
 
-// Their bytes: that part of the lent index itself, and the refusal through its own place; empty where there is one.
-pub fn find<'a>(lent: &'a [u8], used: usize, id: &[u8], refusal: &mut u8) -> &'a [u8]
-    ensures number { refusal.new ≡ refusal_of (find_place lent.now used id.now) }
-    ensures bytes { result.now ≡ part_bytes lent.now (find_place lent.now used id.now) }
-    ensures itself { (result.ref_ptr.0 ≡ lent.entry.ref_ptr.0)
-        × (result.ref_ptr.1 ≡ part_start (find_place lent.now used id.now) + lent.entry.ref_ptr.1) }
+// Their bytes: that part of the lent index itself.
+#[tactic(auto, using(crate::proofs::Found::found_inside))]
+pub fn find<'a>(lent: &'a [u8], used: usize, id: &[u8]) -> Result<&'a [u8], Refusal>
+    ensures number { refusal_in result ≡ refusal_of (find_place lent.now used id.now) }
+    ensures bytes { IfOk result (λ b. b.now ≡ part_bytes lent.now (find_place lent.now used id.now)) }
+    ensures itself { IfOk result (λ b. (b.ref_ptr.0 ≡ lent.entry.ref_ptr.0)
+        × (b.ref_ptr.1 ≡ part_start (find_place lent.now used id.now) + lent.entry.ref_ptr.1)) }
 {
-    match find_place(lent, used, id) {
-        Place::At(start, size) => {
-            *refusal = 0;
-            let end = start + size;
-            &lent[start..end]
-        }
-        Place::Refused(number) => {
-            *refusal = number;
-            &lent[..0]
-        }
-    }
+    Ok(find_place(lent, used, id)?.of(lent))
 }

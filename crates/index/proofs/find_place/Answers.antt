@@ -1,60 +1,24 @@
--- Where the bytes in use are no index, that is refused; else two walks find the part.
-use Prim.Native.Nat.{ℕ, ◌-◌}
-use mathlib.Core.Path.{◌≡◌, sym, ap, ◌∙◌}
-use mathlib.Core.Bool.{true, false}
-use mathlib.Core.List.{List}
+-- Two walks find the part.
+use Prim.Native.Nat.{◌-◌}
+use mathlib.Core.Path.{◌≡◌, sym, ◌∙◌}
 use native.Mathlib.Omega.{arith}
-use lib.ListN.{take}
-use Rattle.wire.proofs.Places.{part_front}
-use Rattle.wire.proofs.Tests.{kept, broken}
-use Rattle.index.specs.Index.{entries_in, index_right, part_or_none, found, find_place}
-use Rattle.index.proofs.Found.{walks_find, whole_index, whole_passed, part_some, part_none}
+use borrow.Author.Rules.{rules}
+use Rattle.index.specs.Index.{smaller, has, part_or_none, find_place}
+use Rattle.index.proofs.Found.{walks_find, smaller_asked, in_use, part_some, part_none}
 use Rattle.index.proofs.find_place.Goals as goal
-use Rattle.index.proofs.find_place.Goals.{After-behind_same-end, After-part_of-s}
+use Rattle.index.proofs.find_place.Goals.{After-behind-end}
 
-pub returns-then-not-index_right : goal.returns-then-not-index_right
-unfolding find_place
-returns-then-not-index_right c = let a = c.args in
-    let none : index_right a.lent.now a.used ≡ false = broken c.index_right.ensures c.if-not-index_right.true in
-    rw none
-
--- the bytes in use
-used : (c : After-part_of-s) → let a = c.args in c.part_of-s.result.now ≡ take a.used a.lent.now
-used c =
-    let a = c.args in c.part_of-s.ensures ∙ part_front a.lent.now a.used
-
--- are an index
-right : (c : After-part_of-s) → let a = c.args in index_right a.lent.now a.used ≡ true
-right c = kept c.index_right.ensures c.if-not-index_right.false
-
-pub behind_smaller-start-requires : goal.behind_smaller-start-requires
-behind_smaller-start-requires c = rw (used c) (whole_index _ _ (right c))
-
-pub behind_same-end-requires : goal.behind_same-end-requires
-behind_same-end-requires c =
-    let u = used (goal.at.behind_same-end-requires c).After-part_of-s in
-    let w = right (goal.at.behind_same-end-requires c).After-part_of-s in
-    whole_passed _ _ _ _ c.behind_smaller-start.ensures (rw u (whole_index _ _ w))
-
--- what the walks find is the part that is looked for
-walked : (c : After-behind_same-end) → let a = c.args in
-    index_right a.lent.now a.used ≡ true → c.part_of-s.result.now ≡ take a.used a.lent.now →
-    find_place a.lent.now a.used a.id.now ≡ part_or_none c.behind_smaller-start.result (c.behind_same-end.result - c.behind_smaller-start.result)
-unfolding find_place
-walked c right used =
+walked : (c : After-behind-end) → let a = c.args in
+    find_place a.lent.now a.used a.id.now ≡ part_or_none c.behind-start.result (c.behind-end.result - c.behind-start.result)
+walked c =
     let a = c.args in
-    let id = a.id.now in
-    rw right
-    (ap (λ (l : List ℕ). found id (entries_in l)) (sym used)
-    ∙ walks_find id c.part_of-s.result.now _ _ c.behind_smaller-start.ensures c.behind_same-end.ensures)
+    walks_find a.lent.now a.used a.id.now _ _ (in_use _ _ c.in_ok-unless.ensures c.index_right.ensures)
+    (c.behind-start.ensures.passed (smaller a.id.now) (λ e b p. search (rules, smaller_asked)))
+    (c.behind-end.ensures.passed (has a.id.now) (λ e b p. search rules))
 
-pub returns-then-end-start : goal.returns-then-end-start
-returns-then-end-start c = let p = (goal.at.returns-then-end-start c).After-part_of-s in
-    let none : c.behind_same-end.result - c.behind_smaller-start.result ≡ 0 = omega (arith, c.if-end-start.true) in
-    sym (walked (goal.at.returns-then-end-start c).After-behind_same-end (right p) (used p) ∙ part_none _ _ none)
+pub returns-then-start-end : goal.returns-then-start-end
+returns-then-start-end c =
+    sym (walked (goal.at.returns-then-start-end c).After-behind-end ∙ part_some _ _ (λ e. absurd (omega (arith, c.if-start-end.true, e))))
 
-pub returns : goal.returns
-returns c =
-    let places = goal.at.returns c in
-    let p = places.After-part_of-s in
-    sym (walked places.After-behind_same-end (right p) (used p) ∙ part_some _ _ (λ e. absurd (omega (arith, c.if-end-start.false, e))))
+pub returns-else-start-end : goal.returns-else-start-end
+returns-else-start-end c = sym (walked (goal.at.returns-else-start-end c).After-behind-end ∙ part_none _ _ (omega (arith, c.if-start-end.false)))

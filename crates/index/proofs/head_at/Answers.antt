@@ -3,16 +3,11 @@ use Prim.Native.Nat.{ℕ, ◌+◌, ◌-◌}
 use mathlib.Core.Path.{◌≡◌, ap, subst, ◌∙◌}
 use mathlib.Core.List.{List}
 use native.Mathlib.Omega.{arith}
-use lib.ListN.{length, take, drop, length-take}
+use lib.ListN.{take, drop}
 use Rattle.bits.specs.Bits.{bits_in}
 use Rattle.bits.specs.InnerWindow.{Window}
 use Rattle.index.proofs.Heads.{head_window}
 use Rattle.index.proofs.head_at.Goals as goal
-
-pub window-requires : goal.window-requires
-window-requires c = let a = c.args in
-    let n = ap length c.part_of.ensures ∙ length-take (a.at + 8 - a.at) (drop a.at a.s.now) in
-    (omega arith, omega arith)
 
 pub returns : goal.returns
 returns c = let a = c.args in

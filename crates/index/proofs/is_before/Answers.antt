@@ -1,10 +1,7 @@
-use mathlib.Core.Path.{refl, sym, ◌∙◌}
+use mathlib.Core.Path.{sym, ◌∙◌}
 use native.Mathlib.Omega.{arith}
 use Rattle.index.proofs.Words.{words_equal, words_differ}
 use Rattle.index.proofs.is_before.Goals as goal
-
-pub loop-i-init : goal.loop-i-init
-loop-i-init c = (omega arith, refl)
 
 pub returns-then-v-w : goal.returns-then-v-w
 returns-then-v-w c =
@@ -20,9 +17,3 @@ loop-i-preserved c =
     let equal = sym c.word-v.ensures ∙ c.if-v-w.false ∙ c.word-w.ensures in
     let turn = words_equal a.a.now a.b.now c.loop-i.i _ c.bytes_fit.ensures c.bytes_fit-2.ensures (omega arith) (omega arith) equal in
     (omega arith, sym turn ∙ c.loop-i.invariant.1)
-
-pub rest_before-requires : goal.rest_before-requires
-rest_before-requires c = (omega arith, omega arith)
-
-pub returns : goal.returns
-returns c = c.rest_before.ensures ∙ c.loop-i.invariant.1

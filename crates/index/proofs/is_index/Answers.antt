@@ -16,9 +16,6 @@ returns-then-not-is_entry c = let s = c.args.s.now in
     let none = none_there s l.last.next (broken c.is_entry.ensures c.if-not-is_entry.true) in
     sym (judged_end s l.last l.invariant none ∙ ne_eqb l.last.next (length s) (λ e. absurd (omega arith)))
 
-pub entry_at-e-requires : goal.entry_at-e-requires
-entry_at-e-requires c = kept c.is_entry.ensures c.if-not-is_entry.false
-
 -- the next entry
 there : (c : After-entry_at-e) → Shown c.args.s.now c.loop-last.last.next c.entry_at-e.result
 there c = shown_at_lem _ _ _ c.entry_at-e.ensures (kept c.is_entry.ensures c.if-not-is_entry.false)
