@@ -1,22 +1,28 @@
 -- Laws that the proofs of this crate cite. Assumes nothing.
-use Prim.Native.Nat.{ℕ, zero, suc, ◌+◌, ◌-◌, ◌≤◌, ◌<◌}
+use Prim.Native.Nat.{ℕ, ◌+◌, ◌-◌, ◌*◌, ◌≤◌, ◌<◌}
 use mathlib.Core.Path.{◌≡◌, refl, sym, ap, ◌∙◌}
 use mathlib.Core.Bool.{Bool, true, false, cond, and-eq-true_iff}
-use mathlib.Core.List.{List, [], ◌∷◌, ◌++◌}
+use mathlib.Core.List.{List, []}
 use native.Mathlib.Omega.{arith}
-use native.Mathlib.Numerals.{add-one}
 use lib.Dec.{leb}
 use lib.IntN.{ℤ, pos}
-use lib.ListN.{length, take, drop, set, replicate, take-append-drop}
-use lib.Seq.{drop-set-lt, drop-drop, take-suc-set}
+use lib.ListN.{length, replicate}
 use borrow.Author.Tests.{leb-true}
+use denote.Ref.{Bor}
+use Rattle.std.specs.Prelude.{Result, Ok, Err}
+use Rattle.std.specs.Option.{ForSome, option_copied}
+use Rattle.std.specs.Bool.{then_some}
+use Rattle.refusals.specs.declared.Refusal.{Refusal}
+use Rattle.refusals.specs.declared.Refusal.TheVariants.{Length, RecordCheck, Section0, Placement, SectionCheck, HeaderFields, CodeTables, LeadSections, Disagreement, NotFound, Room, NoValue, OutOfRange, LeftOver, NoCode, TooLong, Request, Date, Index}
+use Rattle.refusals.specs.Refusals.{number_of, refusal_in}
 use Rattle.wire.proofs.Laws.{kept_first, unlike}
 use Rattle.wire.proofs.Tests.{same, differ}
 use Rattle.pointers.specs.Pointers.{present, section_of}
-use Rattle.tables.specs.Section2.{tables_in}
+use Rattle.tables.specs.Section2.{tables_in, section2_right}
+use Rattle.compiled.specs.InnerForm.{tables_held}
 use Rattle.entries.specs.Section3.{first_sample}
 use Rattle.entries.proofs.Laws.{leads_right, lead_samples}
-use Rattle.rules.specs.LeadRules.{lead_count_of, beat_subtracted, beat_sample_count, lead_refusal}
+use Rattle.rules.specs.LeadRules.{tables_right, lead_count_of, beat_subtracted, beat_sample_count, beat_right, lead_refusal}
 use Rattle.rules.proofs.Laws.{both_passed, asked, sound}
 use Rattle.samples.specs.Trace.{Trace, rebuilt, fault, after_trace}
 use Rattle.samples.specs.InnerTrace.{trace_of}
@@ -25,43 +31,73 @@ use Rattle.beats.specs.Sums.{add_beat}
 use Rattle.beats.proofs.Laws.{added_length}
 use Rattle.leads.specs.LeadTrace.{tables_of, sample_count_at, stream_trace, residual, trace_at, room_right, read_refusal, read_trace}
 use Rattle.leads.specs.LeadCompared.{stream_compared, over_streams, compared_at}
-use Rattle.leads.specs.InnerLead.{Readable, cleared_if}
-use Rattle.leads.specs.LeadAnswers.{out_after, work_after, entry_answer}
+use Rattle.leads.specs.InnerLead.{Readable, cleared_if, most_sum, Summed}
+use Rattle.leads.specs.LeadAnswers.{work_after}
 
--- ---- a loop that stores one element after another, of any type
+-- ---- an answer, and the trace that it means beside samples
 
-module _ {A : Type 0} where
-  -- the elements behind the one stored are as they were
-  pub drop_more : (l l₀ : List A) (i : ℕ) (x : A) → drop i l ≡ drop i l₀ → drop (i + 1) (set l i x) ≡ drop (i + 1) l₀
-  drop_more l l₀ i x e =
-      drop-set-lt (i + 1) l i x (omega arith) ∙ sym (drop-drop 1 i l) ∙ ap (drop 1) e ∙ drop-drop 1 i l₀
+-- a refusal is a fault, whatever the samples are
+pub trace_err : (e : Refusal) (xs : List ℤ) → trace_of (number_of e) xs ≡ fault (number_of e)
+trace_err Length xs = refl
+trace_err RecordCheck xs = refl
+trace_err Section0 xs = refl
+trace_err Placement xs = refl
+trace_err SectionCheck xs = refl
+trace_err HeaderFields xs = refl
+trace_err CodeTables xs = refl
+trace_err LeadSections xs = refl
+trace_err Disagreement xs = refl
+trace_err NotFound xs = refl
+trace_err Room xs = refl
+trace_err NoValue xs = refl
+trace_err OutOfRange xs = refl
+trace_err LeftOver xs = refl
+trace_err NoCode xs = refl
+trace_err TooLong xs = refl
+trace_err Request xs = refl
+trace_err Date xs = refl
+trace_err Index xs = refl
 
-  -- it comes behind those before it
-  pub take_more : (l : List A) (i : ℕ) (x : A) → i < length l → take (i + 1) (set l i x) ≡ take i l ++ (x ∷ [])
-  take_more l i x h = rw (add-one i) (take-suc-set l i x h)
+-- and has a number other than 0
+pub number_some : (e : Refusal) → number_of e ≡ 0 → ⊥
+number_some e h = let z = rw h at (trace_err e []) in unlike cc
 
-  -- all are stored
-  pub stored_all : (l l₀ xs : List A) (n : ℕ) → take n l ≡ xs → drop n l ≡ drop n l₀ → l ≡ xs ++ drop n l₀
-  stored_all l l₀ xs n t d = sym (take-append-drop n l) ∙ rw (t, d)
+-- what an answer says of the trace, by whether it refuses
+module _ {T : Type 0} {r : Result T Refusal} (xs : List ℤ) {t : Trace} (told : trace_of (refusal_in r) xs ≡ t) where
+  pub was_ok : {x : T} → r ≡ Ok x → rebuilt xs ≡ t
+  was_ok h = ap (λ (q : Result T Refusal). trace_of (refusal_in q) xs) (sym h) ∙ told
 
--- all of a list of some length is zeros
-pub zeros : (l : List ℤ) (n : ℕ) → l ≡ replicate (length l) (pos 0) → length l ≡ n → l ≡ replicate n (pos 0)
-zeros l n e h = e ∙ ap (λ (i : ℕ). replicate i (pos 0)) h
+  pub was_err : {e : Refusal} → r ≡ Err e → fault (number_of e) ≡ t
+  was_err {e} h = sym (trace_err e xs) ∙ ap (λ (q : Result T Refusal). trace_of (refusal_in q) xs) (sym h) ∙ told
 
 -- ---- a lead's tables and its trace
 
--- the record's tables are those of Section 2, where it is there
-pub tables_are : (r s : List ℕ) → present r 2 ≡ true → s ≡ section_of r 2 → tables_of r ≡ tables_in s 16
-unfolding tables_of
-tables_are r s here e = rw (here, ← e)
+-- Section 2, where the record has it
+module _ (r : List ℕ) (b : Bool) (s : Bor (List ℕ)) (here : b ≡ present r 2) (section : s.now ≡ section_of r 2) where
+  -- was judged
+  pub tables_judged : tables_right r ≡ true → ForSome (then_some b s) (λ x. section2_right 1 x.now 16 ≡ true)
+  unfolding tables_right
+  tables_judged h = go b here
+    where
+      go : (b : Bool) → b ≡ present r 2 → ForSome (then_some b s) (λ x. section2_right 1 x.now 16 ≡ true)
+      go true e x is =
+          let judged = rw (← e) at h in
+          let own : x ≡ s = cc in
+          ap (λ (y : Bor (List ℕ)). section2_right 1 y.now 16) own ∙ ap (λ (l : List ℕ). section2_right 1 l 16) section ∙ judged
+      go false e x is = unlike cc
 
--- a number was found beside samples; with 0 they are those of the trace
-traced : (n : ℕ) (xs : List ℤ) (t : Trace) → n ≡ 0 → trace_of n xs ≡ t → rebuilt xs ≡ t
-traced n xs t z e = ap (λ (m : ℕ). trace_of m xs) (sym z) ∙ e
+  -- and has the record's tables
+  pub tables_are : tables_held 16 (option_copied (then_some b s)) ≡ tables_of r
+  unfolding tables_of
+  tables_are = go b here
+    where
+      go : (b : Bool) → b ≡ present r 2 → tables_held 16 (option_copied (then_some b s)) ≡ cond (present r 2) (tables_in (section_of r 2) 16) []
+      go true e = rw (← e, section)
+      go false e = rw (← e)
 
 -- where no beat was subtracted the lead is all that Section 6 holds
-pub without_beat : (r : List ℕ) (k : ℕ) → beat_subtracted r ≡ false → residual r k ≡ trace_at r k
-unfolding trace_at
+pub without_beat : (r : List ℕ) (k : ℕ) → beat_subtracted r ≡ false → stream_trace r 6 (sample_count_at r k) k ≡ trace_at r k
+unfolding trace_at residual
 without_beat r k e = rw e
 
 -- and so are the structures compared; where one was, the beat's come before the lead's own
@@ -74,65 +110,35 @@ pub compared_both : (r : List ℕ) (k : ℕ) → beat_subtracted r ≡ true
 unfolding compared_at over_streams
 compared_both r k e = rw e
 
+-- a sum of a stream is one of the lead, of which more may be compared
+pub summed_more : {n m : ℕ} (r : Result ℕ Refusal) → n ≡ m → Summed n most_sum r → Summed m (2 * most_sum) r
+summed_more (Ok x) e h = (h.0 ∙ e, omega (arith, h.1))
+summed_more (Err x) e h = tt
+
 -- a lead from which a beat was subtracted
-module _ (r : List ℕ) (k : ℕ) (here : beat_subtracted r ≡ true) (beat : List ℤ) (n : ℕ)
-    (read : trace_of n beat ≡ stream_trace r 5 (beat_sample_count r) k) where
-  -- the sums with the samples of a beat
-  abbrev sums : List ℤ → List ℤ → Trace
-  sums b xs = add_beat (section_of r 4) b (first_sample (section_of r 3) k) xs
-
+module _ (r : List ℕ) (k : ℕ) (here : beat_subtracted r ≡ true) where
   -- the beat's fault is the lead's
-  pub beat_fault : (ys : List ℤ) → (n ≡ 0 → ⊥) → trace_of n ys ≡ trace_at r k
+  pub beat_fault : {n : ℕ} → fault n ≡ stream_trace r 5 (beat_sample_count r) k → fault n ≡ trace_at r k
   unfolding trace_at
-  beat_fault ys h = rw (here, ← read) (go n h)
-    where
-      go : (m : ℕ) → (m ≡ 0 → ⊥) → trace_of m ys ≡ after_trace (trace_of m beat) (λ b. after_trace (residual r k) (sums b))
-      go zero g = absurd (g refl)
-      go (suc m) g = refl
+  beat_fault read = rw (here, ← read)
 
-  module _ (z : n ≡ 0) (m : ℕ) (xs : List ℤ) (behind : trace_of m xs ≡ residual r k) where
+  module _ {beat : List ℤ} (read : rebuilt beat ≡ stream_trace r 5 (beat_sample_count r) k) where
     -- then the residual's is
-    pub residual_fault : (ys : List ℤ) → (m ≡ 0 → ⊥) → trace_of m ys ≡ trace_at r k
-    unfolding trace_at
-    residual_fault ys h = rw (here, ← traced n beat _ z read, ← behind) (go m h)
-      where
-        go : (l : ℕ) → (l ≡ 0 → ⊥) → trace_of l ys ≡ after_trace (trace_of l xs) (sums beat)
-        go zero g = absurd (g refl)
-        go (suc l) g = refl
+    pub residual_fault : {n : ℕ} → fault n ≡ stream_trace r 6 (sample_count_at r k) k → fault n ≡ trace_at r k
+    unfolding trace_at residual
+    residual_fault behind = rw (here, ← read, ← behind)
 
     -- then sums are made
-    pub beat_added : m ≡ 0 → (t : Trace) → t ≡ add_beat (section_of r 4) beat (first_sample (section_of r 3) k) xs → t ≡ trace_at r k
-    unfolding trace_at
-    beat_added y t e = rw (here, ← traced n beat _ z read, ← traced m xs _ y behind) e
+    pub beat_added : {xs : List ℤ} → rebuilt xs ≡ stream_trace r 6 (sample_count_at r k) k
+        → {t : Trace} → t ≡ add_beat (section_of r 4) beat (first_sample (section_of r 3) k) xs → t ≡ trace_at r k
+    unfolding trace_at residual
+    beat_added behind sum = rw (here, ← read, ← behind) sum
 
--- ---- answers
-
--- a fault leaves the output as it was
-pub out_fault : (n : ℕ) (xs out : List ℤ) (t : Trace) → (n ≡ 0 → ⊥) → trace_of n xs ≡ t → out ≡ out_after t out
-out_fault zero xs out t h e = absurd (h refl)
-out_fault (suc n) xs out t h e = rw (← e)
-
--- a trace that is rebuilt is at the front of the output
-pub out_rebuilt : (n : ℕ) (xs out : List ℤ) (t : Trace) → n ≡ 0 → trace_of n xs ≡ t → xs ++ drop (length xs) out ≡ out_after t out
-out_rebuilt n xs out t h e = rw (← traced n xs t h e)
-
--- a refused entry is the number and nothing else
-pub entry_refused : (r : List ℕ) (place n : ℕ) → n ≡ lead_refusal r place → (n ≡ 0 → ⊥) →
-    record {
-      refusal = n;
-      id = 0;
-      flags = 0;
-      order = 0;
-      step = 0;
-      interval = 0;
-      first = 0;
-      last = 0;
-      leads = 0;
-      bytes = 0;
-    }
-    ≡ entry_answer r place
-entry_refused r place zero e h = absurd (h refl)
-entry_refused r place (suc n) e h = rw (← e)
+-- a place that is not refused is that of a lead
+pub placed : (r : List ℕ) (place : ℕ) → lead_refusal r place ≡ 0 → (1 ≤ place) × (place ≤ 32) × (beat_right r ≡ true)
+placed r place h =
+    let s = sound r place h in
+    (s.first, omega (arith, s.last, (leads_right (section_of r 3) s.leads).most), s.beat)
 
 -- ---- reading as a whole
 
@@ -202,15 +208,3 @@ trace_length r k xs h = go (beat_subtracted r) (stream_trace r 5 (beat_sample_co
     go true (fault n) behind g e = unlike cc
     go true (rebuilt bs) (fault n) g e = unlike cc
     go true (rebuilt bs) (rebuilt ys) g e = added_length (section_of r 4) bs (first_sample (section_of r 3) k) ys xs (sym e) ∙ g ys refl
-
--- what was read, with a number beside it
-module _ (r : List ℕ) (k n : ℕ) (xs : List ℤ) (e : trace_of n xs ≡ trace_at r k) where
-  pub trace_fault : (n ≡ 0 → ⊥) → fault n ≡ trace_at r k
-  trace_fault h = go n xs h e
-    where
-      go : (m : ℕ) (ys : List ℤ) → (m ≡ 0 → ⊥) → trace_of m ys ≡ trace_at r k → fault m ≡ trace_at r k
-      go zero ys g f = absurd (g refl)
-      go (suc m) ys g f = f
-
-  pub trace_rebuilt : n ≡ 0 → rebuilt xs ≡ trace_at r k
-  trace_rebuilt z = traced n xs (trace_at r k) z e

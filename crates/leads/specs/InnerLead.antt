@@ -1,7 +1,7 @@
 -- The conditions and the answers of the functions that read a lead. No public contract rests on this.
-use Rattle.std.specs.Prelude.{ℕ, ◌≤◌, ◌<◌, ◌≡◌, Bool, true, false, List, ℤ, pos, length, replicate}
+use Rattle.std.specs.Prelude.{ℕ, ◌≤◌, ◌<◌, ◌≡◌, Bool, true, false, List, ℤ, pos, length, replicate, Result, IfOk}
 use Rattle.rules.specs.LeadRules.{tables_right, lead_count_of, beat_subtracted, beat_sample_count, beat_right}
-use Rattle.traces.specs.declared.Rebuilt.{Rebuilt}
+use Rattle.refusals.specs.declared.Refusal.{Refusal}
 use Rattle.leads.specs.LeadTrace.{sample_count_at}
 
 -- lead k can be read with `work` elements of work space: its tables and its beat were judged, and it is there
@@ -22,6 +22,6 @@ cleared_if false work = work
 abbrev pub most_sum : ℕ
 most_sum = 536870912
 
--- where nothing was refused so many structures were compared; and there are never more than `most`
-abbrev pub Summed : ℕ → ℕ → Rebuilt → Type 0
-Summed n most r = (r.fault ≡ 0 → r.compared ≡ n) × (r.compared ≤ most)
+-- where nothing was refused so many structures were compared, and never more than `most`
+abbrev pub Summed : ℕ → ℕ → Result ℕ Refusal → Type 0
+Summed n most r = IfOk r (λ compared. (compared ≡ n) × (compared ≤ most))

@@ -1,5 +1,5 @@
 -- The properties of a record from which a lead can be read: none of the refusals 1 to 10 applies. Assumes nothing.
-use Prim.Native.Nat.{ℕ, ◌≤◌}
+use Prim.Native.Nat.{ℕ, ◌<◌, ◌≤◌}
 use mathlib.Core.Path.{◌≡◌, refl}
 use mathlib.Core.Bool.{Bool, true, false, not, ◌||◌, cond, and-eq-true_iff}
 use mathlib.Core.List.{List}
@@ -9,9 +9,9 @@ use Rattle.wire.proofs.Laws.{kept_first, unlike}
 use Rattle.pointers.specs.Pointers.{present, section_of}
 use Rattle.record.specs.Opening.{open_refusal, opens}
 use Rattle.entries.specs.Section3.{section3_right}
-use Rattle.entries.specs.Sections5And6.{streams_right, section6_right}
+use Rattle.entries.specs.Sections5And6.{interval_of, streams_right, section6_right}
 use Rattle.entries.specs.Section4.{section4_right}
-use Rattle.entries.proofs.Laws.{leads_right}
+use Rattle.entries.proofs.Laws.{leads_right, interval_some}
 use Rattle.rules.specs.LeadRules.{tables_right, lead_count_of, beat_subtracted, beat_sample_count, beat_right}
 use Rattle.rules.specs.LeadRules.{section6_kept, sections3_to6_right, agrees, has_lead, lead_refusal}
 
@@ -79,3 +79,7 @@ sound_beat r h e =
     let p = (and-eq-true_iff (present r 4) _).0 (asked (beat_subtracted r) _ h e) in
     let q = (and-eq-true_iff (present r 5) _).0 p.1 in
     (and-eq-true_iff (streams_right (lead_count_of r) (section_of r 5)) _).0 q.1
+
+-- so that Section 5 has an interval
+pub interval_there : (r : List ℕ) → beat_right r ≡ true → beat_subtracted r ≡ true → 0 < interval_of (section_of r 5)
+interval_there r h e = interval_some (lead_count_of r) (section_of r 5) (sound_beat r h e).0

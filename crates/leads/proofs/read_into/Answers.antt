@@ -1,47 +1,23 @@
--- The room has as many elements as the lead has samples, or more: 8,192 where they are no more, else 65,536.
-use mathlib.Core.Path.{◌≡◌, sym, ap, ◌∙◌}
-use mathlib.Core.List.{List}
-use Prim.Native.Nat.{ℕ, ◌≤◌}
+-- Section 2, where it is there, was judged, and its tables are held.
+use mathlib.Core.Path.{subst}
 use native.Mathlib.Omega.{arith}
-use lib.ListN.{length}
-use lib.Seq.{length-take-le}
-use borrow.Author.Rules.{rules}
-use Rattle.entries.specs.Section3.{sample_count}
-use Rattle.leads.specs.LeadTrace.{sample_count_at}
+use Rattle.compiled.specs.InnerForm.{CompiledOrNone}
+use Rattle.leads.proofs.Laws.{tables_judged, tables_are}
 use Rattle.leads.proofs.read_into.Goals as goal
-use Rattle.leads.proofs.read_into.Goals.{After-sample_count}
 
--- the count is that of Section 3's entry
-count : (c : After-sample_count) → let a = c.args in
-    c.sample_count.result ≡ sample_count_at a.rec.now a.k
-count c =
-    let a = c.args in
-    c.sample_count.ensures.0 ∙ ap (λ (s : List ℕ). sample_count s a.k) c.section_of.ensures
+pub hold-tab-requires : goal.hold-tab-requires
+hold-tab-requires c =
+    let judged = tables_judged c.args.rec.now c.is_present.result c.section_of.result c.is_present.ensures c.section_of.ensures c.requires.readable.tables in
+    (omega arith, rw c.then_some-section2.ensures judged)
 
-pub slice_bounds-read_in-end : goal.slice_bounds-read_in-end
-slice_bounds-read_in-end c = let held = c.hold_tables-held in
-    let inside : held.result ≤ length held.new.tab = search rules in
-    sym (length-take-le _ _ inside)
+pub read_in-requires-clause-held : goal.read_in-requires-clause-held
+read_in-requires-clause-held c =
+    let own = tables_are c.args.rec.now c.is_present.result c.section_of.result c.is_present.ensures c.section_of.ensures in
+    let held = rw c.then_some-section2.ensures at c.hold-tab.ensures.tables in
+    subst (λ tables. CompiledOrNone tables c.hold-tab.result.now) own held
 
-pub read_in-requires : goal.read_in-requires
-read_in-requires c =
-    let few = count (goal.at.read_in-requires c).After-sample_count in
-    record {
-      compiled_or_none = c.hold_tables-held.ensures.1;
-      readable = c.requires.readable;
-      k_in_bounds = (omega (arith, few, c.requires.readable.count), c.requires.k_in_bounds);
-    }
-
-pub slice_bounds-read_in-end-2 : goal.slice_bounds-read_in-end-2
-slice_bounds-read_in-end-2 c = let held = c.hold_tables-held in
-    let inside : held.result ≤ length held.new.tab = search rules in
-    sym (length-take-le _ _ inside)
-
-pub read_in-requires-2 : goal.read_in-requires-2
-read_in-requires-2 c =
-    let few = count (goal.at.read_in-requires-2 c).After-sample_count in
-    record {
-      compiled_or_none = c.hold_tables-held.ensures.1;
-      readable = c.requires.readable;
-      k_in_bounds = (omega (arith, few, c.requires.readable.count), c.requires.k_in_bounds);
-    }
+pub read_in-requires-else-sample_count-le-SMALL_ROOM-clause-held : goal.read_in-requires-else-sample_count-le-SMALL_ROOM-clause-held
+read_in-requires-else-sample_count-le-SMALL_ROOM-clause-held c =
+    let own = tables_are c.args.rec.now c.is_present.result c.section_of.result c.is_present.ensures c.section_of.ensures in
+    let held = rw c.then_some-section2.ensures at c.hold-tab.ensures.tables in
+    subst (λ tables. CompiledOrNone tables c.hold-tab.result.now) own held
