@@ -1,13 +1,14 @@
 // A walk over the header fields of a record (01, Header fields and the patient identifier; 01, The forms we expect): a small struct
-// that holds Section 1 as a part of the lent record itself, and a place in it. A step shows what is there; the next walker is past it.
+// that holds Section 1 as a part of the lent record itself, and a place in it. It is an iterator: a step shows what is there, and goes
+// past it.
 #![tactic(auto)]
 
-ghost use Rattle.std.specs.Prelude.{◌≡◌, ◌+◌, IfOk, IfSome, is_some};
+ghost use Rattle.std.specs.Prelude.{◌≡◌, ◌+◌, IfOk};
+ghost use Rattle.std.specs.Iterator.{item_count};
 ghost use Rattle.refusals.specs.Refusals.{refusal_in};
-ghost use Rattle.header.specs.Fields.{step_at, shown_bytes};
 ghost use Rattle.pointers.specs.Pointers.{data_at};
 ghost use Rattle.fields.specs.Lookup.{walk_place, refusal_of, part_start, part_bytes};
-ghost use Rattle.walker.specs.Walk.{shown_more, shown_tag, shown_start, place_after};
+ghost use Rattle.walker.specs.Walk.{Steps, left};
 
 use refusals::Refusal;
 
@@ -27,7 +28,7 @@ pub struct Shown<'a> {
 
 // A walk starts at the first field of Section 1. It is refused as opening is.
 #[tactic(auto, using(crate::proofs::Laws::place_inside))]
-pub fn start<'a>(rec: &'a [u8]) -> Result<Walker<'a>, Refusal>
+pub fn start(rec: &[u8]) -> Result<Walker<'_>, Refusal>
     ensures number { refusal_in result ≡ refusal_of (walk_place rec.now) }
     ensures section { IfOk result (λ w. w.section.now ≡ part_bytes rec.now (walk_place rec.now)) }
     ensures itself { IfOk result (λ w. (w.section.ref_ptr.0 ≡ rec.entry.ref_ptr.0)
@@ -38,31 +39,21 @@ pub fn start<'a>(rec: &'a [u8]) -> Result<Walker<'a>, Refusal>
     Ok(Walker { section, at: 16 })
 }
 
-// Shows the field at the walker's place, or the end.
-#[tactic(auto, using(header::proofs::Laws::step_found))]
-pub fn step<'a>(w: Walker<'a>) -> Option<Shown<'a>>
-    ensures more { is_some result ≡ shown_more (step_at w.entry.section.now w.entry.at) }
-    ensures tag { IfSome result (λ x. x.tag ≡ shown_tag (step_at w.entry.section.now w.entry.at)) }
-    ensures bytes { IfSome result (λ x. x.bytes.now
-        ≡ shown_bytes w.entry.section.now (step_at w.entry.section.now w.entry.at)) }
-    ensures itself { IfSome result (λ x. (x.bytes.ref_ptr.0 ≡ w.entry.section.ref_ptr.0)
-        × (x.bytes.ref_ptr.1 ≡ shown_start (step_at w.entry.section.now w.entry.at) + w.entry.section.ref_ptr.1)) }
-{
-    let f = header::step_at(w.section, w.at)?;
-    Some(Shown {
-        bytes: &w.section[f.start..f.end],
-        tag: f.tag,
-    })
-}
+impl<'a> Iterator for Walker<'a> {
+    type Item = Shown<'a>;
 
-// The walker behind what its step shows; at the end it stays.
-pub fn next<'a>(w: Walker<'a>) -> Walker<'a>
-    ensures { (result.section ≡ w.entry.section)
-        × (result.at ≡ place_after w.entry.at (step_at w.entry.section.now w.entry.at)) }
-{
-    let at = header::step_at(w.section, w.at).map_or(w.at, |f| f.end);
-    Walker {
-        section: w.section,
-        at,
+    ghost next_gives = { Steps };
+
+    ghost remaining = { item_count left };
+
+    // Shows the field at the walker's place, and goes behind it; at the end it stays.
+    #[tactic(auto, using(header::proofs::Laws::step_found, header::proofs::Laws::fields_step))]
+    fn next(&mut self) -> Option<Shown<'a>> {
+        let f = header::step_at(self.section, self.at)?;
+        self.at = f.end;
+        Some(Shown {
+            bytes: &self.section[f.start..f.end],
+            tag: f.tag,
+        })
     }
 }
