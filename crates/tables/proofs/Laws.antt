@@ -1,9 +1,11 @@
 -- Laws that the proofs of this crate and of those above it cite. Assumes nothing.
-use Prim.Native.Nat.{ℕ, zero, suc, ◌+◌, ◌-◌, ◌*◌, ◌/◌, ◌%◌, ◌^◌, ◌≤◌, ◌<◌}
-use mathlib.Core.Path.{◌≡◌, refl, sym, ap}
+use Prim.Native.Nat.{ℕ, zero, suc, ◌+◌, ◌-◌, min, ◌*◌, ◌/◌, ◌%◌, ◌^◌, ◌≤◌, ◌<◌}
+use mathlib.Core.Path.{◌≡◌, refl, sym, ap, ◌∙◌}
 use mathlib.Core.Bool.{Bool, true, false, not, ◌&&◌, cond, and-false, and-eq-true_iff}
 use mathlib.Core.List.{List, [], ◌∷◌}
 use mathlib.Core.Logic.{◌⊎◌, inl, inr, ⊎_elim}
+use native.Mathlib.Nat.{sub-zero}
+use native.Mathlib.Decide.{dec_le}
 use native.Mathlib.Omega.{arith}
 use lib.Dec.{leb, ltb, eqb}
 use lib.ListN.{length, get_or}
@@ -11,7 +13,7 @@ use borrow.Author.Tests.{leb-true, ltb-true, eqb-true, eqb-false, eq-eqb, ne_eqb
 use Rattle.wire.specs.Numbers.{number_at}
 use Rattle.wire.proofs.Laws.{unlike}
 use Rattle.wire.proofs.Every.{every_at}
-use Rattle.wire.specs.RuleWords.{every}
+use Rattle.wire.specs.RuleWords.{each, all_in, every}
 use Rattle.bits.specs.Bits.{low_first, begins}
 use Rattle.tables.specs.declared.Structure.{Structure}
 use Rattle.tables.specs.Structures.{structure_at, structures_at, remainder_of, mode_right, no_structure}
@@ -49,6 +51,33 @@ get_d_structures_at s o (suc n) zero h = let e : o + 9 * 0 ≡ o = omega arith i
 get_d_structures_at s o (suc n) (suc k) h =
     let e : o + 9 + 9 * k ≡ o + 9 * suc k = omega arith in
     rw (← e) (get_d_structures_at s (o + 9) n k (omega arith))
+
+-- a rule of n structures is one of each of n places
+pub structures_all : (rule : Structure → Bool) (s : List ℕ) (o n : ℕ) → all_in 0 n (λ k. rule (structure_at s (o + 9 * k))) ≡ every rule (structures_at s o n)
+unfolding all_in each every structures_at
+structures_all rule s o n = (let e : o + 9 * 0 ≡ o = omega arith in rw (sub-zero n) (go n 0 ∙ ap (λ (at : ℕ). every rule (structures_at s at n)) e))
+  where
+    go : (m k : ℕ) → each m k (λ i. rule (structure_at s (o + 9 * i))) ≡ every rule (structures_at s (o + 9 * k) m)
+    go zero k = refl
+    go (suc m) k =
+        let e : o + 9 * (k + 1) ≡ o + 9 * k + 9 = omega arith in
+        ap (λ (b : Bool). rule (structure_at s (o + 9 * k)) && b) (go m (k + 1) ∙ ap (λ (at : ℕ). every rule (structures_at s at m)) e)
+
+-- n structures of which each is apart from those behind it
+pub free_all : (s : List ℕ) (o n : ℕ)
+    → all_in 0 n (λ k. every (apart (structure_at s (o + 9 * k))) (structures_at s (o + 9 * k + 9) (n - 1 - k))) ≡ prefix_free (structures_at s o n)
+unfolding all_in each prefix_free structures_at
+free_all s o n = (let e : o + 9 * 0 ≡ o = omega arith in rw (sub-zero n) (go n 0 (omega arith) ∙ ap (λ (at : ℕ). prefix_free (structures_at s at n)) e))
+  where
+    rest : ℕ → ℕ → Bool
+    rest k m = every (apart (structure_at s (o + 9 * k))) (structures_at s (o + 9 * k + 9) m)
+
+    go : (m k : ℕ) → k + m ≡ n → each m k (λ i. rest i (n - 1 - i)) ≡ prefix_free (structures_at s (o + 9 * k) m)
+    go zero k h = refl
+    go (suc m) k h =
+        let e : o + 9 * (k + 1) ≡ o + 9 * k + 9 = omega arith in
+        let left : n - 1 - k ≡ m = omega arith in
+        rw (left, go m (k + 1) (omega arith), e)
 
 -- the first of the tables that are left
 pub tables_cons : (s : List ℕ) (o n : ℕ) → 0 < n → tables_from s o n ≡ table_at s o ∷ tables_from s (after_table s o) (n - 1)
@@ -100,15 +129,14 @@ module _ (p q k x y : ℕ) where
       let eq : q - k ≡ suc (q - (k + 1)) = omega arith in
       rw (ep, eq, eq-eqb (x % 2) (y % 2) e, eq-eqb (y % 2) (x % 2) (sym e))
 
-  -- no bit is left of the first
-  pub bits_first : p ≤ k → bits_apart (p - k) (q - k) x y ≡ false
+  -- no bit is left of one of the two
+  pub bits_none : min p q ≤ k → bits_apart (p - k) (q - k) x y ≡ false
   unfolding low_first begins
-  bits_first h = let e : p - k ≡ 0 = omega arith in rw e
-
-  -- no bit is left of the second
-  pub bits_second : q ≤ k → bits_apart (p - k) (q - k) x y ≡ false
-  unfolding low_first begins
-  bits_second h = let e : q - k ≡ 0 = omega arith in rw e (and-false (not (begins (low_first (p - k) x) [])))
+  bits_none h = go (dec_le p k)
+    where
+      go : Dec (p ≤ k) → bits_apart (p - k) (q - k) x y ≡ false
+      go (yes l) = let e : p - k ≡ 0 = omega arith in rw e
+      go (no l) = let e : q - k ≡ 0 = omega arith in rw e (and-false (not (begins (low_first (p - k) x) [])))
 
 -- no prefix begins another: any two places
 pub free_at : (cs : List Structure) → prefix_free cs ≡ true → (j k : ℕ) → j < k → k < length cs

@@ -7,7 +7,8 @@ ghost use Rattle.tables.specs.Default.{default_table};
 ghost use Rattle.wire.specs.RuleWords.{every};
 ghost use Rattle.tables.specs.Section2.{is_default, table_at, after_table, tables_from, after_tables, table_right, section2_right};
 
-// A code structure; the base value without its sign.
+// A code structure; the base value without its sign. The mode is the number of its byte, since the rule judges that byte
+// (`mode_right`).
 #[derive(Clone, Copy)]
 pub struct Structure {
     pub prefix: usize,
@@ -18,6 +19,7 @@ pub struct Structure {
 }
 
 // The structure in the nine bytes from a place on.
+#[tactic(auto, unfolding(crate::specs::Structures::structure_at))]
 pub fn structure_at(s: &[u8], o: usize) -> Structure
     requires { o < 16777216 }
     ensures { result ≡ structure_at s.now o }
@@ -32,66 +34,43 @@ pub fn structure_at(s: &[u8], o: usize) -> Structure
 }
 
 // The mode is a value's or a switch's, and a switch leads to a table that exists.
+#[tactic(auto, unfolding(crate::specs::Structures::mode_right))]
 fn mode_right(c: Structure, tables: usize) -> bool
     ensures { result ≡ mode_right tables c }
 {
     if c.mode == 0 {
-        if c.whole != c.prefix {
-            return false;
-        }
-        if c.base < 1 {
-            return false;
-        }
-        if tables < c.base {
-            return false;
-        }
-        return true;
+        c.whole == c.prefix && 1 <= c.base && c.base <= tables
+    } else {
+        c.mode == 1
     }
-    if c.mode != 1 {
-        return false;
-    }
-    true
 }
 
 // The lengths, the bits above the prefix and the mode of a structure.
+#[tactic(auto, unfolding(crate::specs::Structures::structure_right))]
 fn structure_right(c: Structure, tables: usize) -> bool
     ensures { result ≡ structure_right tables c }
 {
     let p = c.prefix;
-    if p < 1 {
-        return false;
-    }
-    if 32 < p {
-        return false;
-    }
-    if c.whole < p {
-        return false;
-    }
-    if 16 < c.whole - p {
-        return false;
-    }
-    if bits::power(p) <= c.code {
-        return false;
-    }
-    mode_right(c, tables)
+    1 <= p
+        && p <= 32
+        && p <= c.whole
+        && c.whole - p <= 16
+        && c.code < bits::power(p)
+        && mode_right(c, tables)
 }
 
 // Neither prefix begins the other: their bits differ before one of them ends.
 fn is_apart(c: Structure, d: Structure) -> bool
     ensures { result ≡ apart c d }
 {
-    let p = c.prefix;
-    let q = d.prefix;
     let mut x = c.code;
     let mut y = d.code;
-    let mut k = 0;
-    while k < p && k < q {
+    for _ in 0..c.prefix.min(d.prefix) {
         if x % 2 != y % 2 {
             return true;
         }
-        x = x / 2;
-        y = y / 2;
-        k += 1;
+        x /= 2;
+        y /= 2;
     }
     false
 }
@@ -101,16 +80,7 @@ fn apart_from(s: &[u8], o: usize, n: usize, c: Structure) -> bool
     requires { (o < 8388608) × (n ≤ 64) }
     ensures { result ≡ every (apart c) (structures_at s.now o n) }
 {
-    let mut from = o;
-    let mut left = n;
-    while 0 < left {
-        if !is_apart(c, structure_at(s, from)) {
-            return false;
-        }
-        from += 9;
-        left -= 1;
-    }
-    true
+    (0..n).all(|k| is_apart(c, structure_at(s, o + 9 * k)))
 }
 
 // No prefix of n structures begins another.
@@ -118,16 +88,7 @@ fn is_prefix_free(s: &[u8], o: usize, n: usize) -> bool
     requires { (o < 4194304) × (n ≤ 64) }
     ensures { result ≡ prefix_free (structures_at s.now o n) }
 {
-    let mut from = o;
-    let mut left = n;
-    while 0 < left {
-        if !apart_from(s, from + 9, left - 1, structure_at(s, from)) {
-            return false;
-        }
-        from += 9;
-        left -= 1;
-    }
-    true
+    (0..n).all(|k| apart_from(s, o + 9 * k + 9, n - 1 - k, structure_at(s, o + 9 * k)))
 }
 
 // Every one of n structures is right.
@@ -135,37 +96,21 @@ fn structures_right(s: &[u8], o: usize, n: usize, tables: usize) -> bool
     requires { (o < 8388608) × (n ≤ 64) }
     ensures { result ≡ every (structure_right tables) (structures_at s.now o n) }
 {
-    let mut from = o;
-    let mut left = n;
-    while 0 < left {
-        if !structure_right(structure_at(s, from), tables) {
-            return false;
-        }
-        from += 9;
-        left -= 1;
-    }
-    true
+    (0..n).all(|k| structure_right(structure_at(s, o + 9 * k), tables))
 }
 
 // The table at a place is right.
+#[tactic(auto, using(crate::proofs::Laws::length_structures_at), unfolding(crate::specs::Section2::table_right, crate::specs::Section2::table_at))]
 fn table_right(s: &[u8], o: usize, tables: usize) -> bool
     requires { o < 4000000 }
     ensures { result ≡ table_right tables (table_at s.now o) }
 {
     let n = wire::number16(s, o);
-    if n < 1 {
-        return false;
-    }
-    if 64 < n {
-        return false;
-    }
-    if !structures_right(s, o + 2, n, tables) {
-        return false;
-    }
-    is_prefix_free(s, o + 2, n)
+    1 <= n && n <= 64 && structures_right(s, o + 2, n, tables) && is_prefix_free(s, o + 2, n)
 }
 
 // The place after the table at a place.
+#[tactic(auto, unfolding(crate::specs::Section2::after_table))]
 pub fn after_table(s: &[u8], o: usize) -> usize
     requires { o < 16777216 }
     ensures { (result ≡ after_table s.now o) × (result ≤ o + 589817) }
@@ -179,13 +124,11 @@ fn all_tables_right(s: &[u8], o: usize, n: usize, tables: usize) -> bool
     ensures { result ≡ every (table_right tables) (tables_from s.now o n) }
 {
     let mut from = o;
-    let mut left = n;
-    while 0 < left {
+    for _ in 0..n {
         if !table_right(s, from, tables) {
             return false;
         }
         from = after_table(s, from);
-        left -= 1;
     }
     true
 }
@@ -196,25 +139,22 @@ fn after_tables(s: &[u8], o: usize, n: usize) -> usize
     ensures { (result ≡ after_tables s.now o n) × (result < 8388608) }
 {
     let mut from = o;
-    let mut left = n;
-    while 0 < left {
+    for _ in 0..n {
         from = after_table(s, from);
-        left -= 1;
     }
     from
 }
 
 // 19999: the default table alone.
+#[tactic(auto, unfolding(crate::specs::Section2::is_default))]
 pub fn is_default(s: &[u8], at: usize) -> bool
     ensures { result ≡ is_default s.now at }
 {
-    if wire::number16(s, at) != 19999 {
-        return false;
-    }
-    true
+    wire::number16(s, at) == 19999
 }
 
 // The data, which start at place `at`, keep their rule: refusal 7 is not due.
+#[tactic(auto, unfolding(crate::specs::Section2::section2_right))]
 pub fn section2_right(s: &[u8], at: usize, spare: usize) -> bool
     requires { (at ≤ 1048576) × (spare ≤ 1) }
     ensures { result ≡ section2_right spare s.now at }
@@ -223,152 +163,33 @@ pub fn section2_right(s: &[u8], at: usize, spare: usize) -> bool
         return wire::ends_by(s, at + 2, spare);
     }
     let n = wire::number16(s, at);
-    if n < 1 {
-        return false;
-    }
-    if 8 < n {
-        return false;
-    }
-    if !all_tables_right(s, at + 2, n, n) {
-        return false;
-    }
-    wire::ends_by(s, after_tables(s, at + 2, n), spare)
+    1 <= n
+        && n <= 8
+        && all_tables_right(s, at + 2, n, n)
+        && wire::ends_by(s, after_tables(s, at + 2, n), spare)
 }
 
-const DEFAULT: [Structure; 19] = [
-    Structure {
-        prefix: 1,
-        whole: 1,
-        mode: 1,
-        base: 0,
-        code: 0,
-    },
-    Structure {
-        prefix: 3,
-        whole: 3,
-        mode: 1,
-        base: 1,
-        code: 1,
-    },
-    Structure {
-        prefix: 3,
-        whole: 3,
-        mode: 1,
-        base: 65535,
-        code: 5,
-    },
-    Structure {
-        prefix: 4,
-        whole: 4,
-        mode: 1,
-        base: 2,
-        code: 3,
-    },
-    Structure {
-        prefix: 4,
-        whole: 4,
-        mode: 1,
-        base: 65534,
-        code: 11,
-    },
-    Structure {
-        prefix: 5,
-        whole: 5,
-        mode: 1,
-        base: 3,
-        code: 7,
-    },
-    Structure {
-        prefix: 5,
-        whole: 5,
-        mode: 1,
-        base: 65533,
-        code: 23,
-    },
-    Structure {
-        prefix: 6,
-        whole: 6,
-        mode: 1,
-        base: 4,
-        code: 15,
-    },
-    Structure {
-        prefix: 6,
-        whole: 6,
-        mode: 1,
-        base: 65532,
-        code: 47,
-    },
-    Structure {
-        prefix: 7,
-        whole: 7,
-        mode: 1,
-        base: 5,
-        code: 31,
-    },
-    Structure {
-        prefix: 7,
-        whole: 7,
-        mode: 1,
-        base: 65531,
-        code: 95,
-    },
-    Structure {
-        prefix: 8,
-        whole: 8,
-        mode: 1,
-        base: 6,
-        code: 63,
-    },
-    Structure {
-        prefix: 8,
-        whole: 8,
-        mode: 1,
-        base: 65530,
-        code: 191,
-    },
-    Structure {
-        prefix: 9,
-        whole: 9,
-        mode: 1,
-        base: 7,
-        code: 127,
-    },
-    Structure {
-        prefix: 9,
-        whole: 9,
-        mode: 1,
-        base: 65529,
-        code: 383,
-    },
-    Structure {
-        prefix: 10,
-        whole: 10,
-        mode: 1,
-        base: 8,
-        code: 255,
-    },
-    Structure {
-        prefix: 10,
-        whole: 10,
-        mode: 1,
-        base: 65528,
-        code: 767,
-    },
-    Structure {
-        prefix: 10,
-        whole: 18,
-        mode: 1,
-        base: 0,
-        code: 511,
-    },
-    Structure {
-        prefix: 10,
-        whole: 26,
-        mode: 1,
-        base: 0,
-        code: 1023,
-    },
+// Of each structure, which are all values': the prefix's bits, the whole code's, the base value and the base code.
+const DEFAULT: [(usize, usize, usize, usize); 19] = [
+    (1, 1, 0, 0),
+    (3, 3, 1, 1),
+    (3, 3, 65535, 5),
+    (4, 4, 2, 3),
+    (4, 4, 65534, 11),
+    (5, 5, 3, 7),
+    (5, 5, 65533, 23),
+    (6, 6, 4, 15),
+    (6, 6, 65532, 47),
+    (7, 7, 5, 31),
+    (7, 7, 65531, 95),
+    (8, 8, 6, 63),
+    (8, 8, 65530, 191),
+    (9, 9, 7, 127),
+    (9, 9, 65529, 383),
+    (10, 10, 8, 255),
+    (10, 10, 65528, 767),
+    (10, 18, 0, 511),
+    (10, 26, 0, 1023),
 ];
 
 // The structure at a place of the default table, counted from 0.
@@ -376,5 +197,12 @@ pub fn default_structure(k: usize) -> Structure
     requires { k < 19 }
     ensures { result ≡ get_or default_table k no_structure }
 {
-    DEFAULT[k]
+    let (prefix, whole, base, code) = DEFAULT[k];
+    Structure {
+        prefix,
+        whole,
+        mode: 1,
+        base,
+        code,
+    }
 }

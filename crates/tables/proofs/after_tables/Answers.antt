@@ -1,22 +1,17 @@
-use mathlib.Core.Path.{refl, sym, ap, ◌∙◌}
-use Prim.Native.Nat.{ℕ, ◌-◌}
+use mathlib.Core.Path.{◌≡◌}
+use Prim.Native.Nat.{suc, ◌+◌, ◌-◌}
 use native.Mathlib.Omega.{arith}
 use Rattle.tables.specs.Section2.{after_tables}
-use Rattle.tables.proofs.Laws.{after_more, after_none}
 use Rattle.tables.proofs.after_tables.Goals as goal
 
-pub loop-left-init : goal.loop-left-init
-loop-left-init c = (omega arith, refl)
-
-pub loop-left-preserved : goal.loop-left-preserved
-loop-left-preserved c = let l = c.loop-left in
-    let s = c.args.s.now in (
-      omega arith,
-      ap (λ (o : ℕ). after_tables s o (l.left - 1)) c.after_table-from.ensures.0
-          ∙ sym (after_more s l.from l.left (omega arith))
-          ∙ l.invariant.1,
-    )
+pub loop-preserved : goal.loop-preserved
+unfolding after_tables
+loop-preserved c = let l = c.loop in
+    let e : c.args.n - l.counter ≡ suc (c.args.n - (l.counter + 1)) = omega arith in
+    (omega arith, rw c.after_table-from.ensures.0 (rw e at l.invariant.1))
 
 pub returns : goal.returns
-returns c = let l = c.loop-left in
-    (sym (after_none _ l.from l.left (omega arith)) ∙ l.invariant.1, omega arith)
+unfolding after_tables
+returns c = let l = c.loop in
+    let e : c.args.n - l.counter ≡ 0 = omega arith in
+    (rw e at l.invariant.1, omega arith)

@@ -4,8 +4,5 @@ use Prim.Native.Nat.{◌-◌}
 use Rattle.tables.proofs.Laws.{bits_apart}
 use Rattle.tables.proofs.is_apart.Given as goal
 
-abbrev pub invariant-loop-k : goal.invariant-loop-k
-invariant-loop-k l = bits_apart (l.p - l.k) (l.q - l.k) l.x l.y ≡ bits_apart l.p l.q l.initial.x l.initial.y
-
-abbrev pub decreases-loop-k : goal.decreases-loop-k
-decreases-loop-k l = l.p - l.k
+abbrev pub invariant-loop : goal.invariant-loop
+invariant-loop l = bits_apart (l.fn.c.prefix - l.counter) (l.fn.d.prefix - l.counter) l.x l.y ≡ bits_apart l.fn.c.prefix l.fn.d.prefix l.fn.c.code l.fn.d.code
