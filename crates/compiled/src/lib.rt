@@ -41,9 +41,10 @@ fn lowest_of(base: usize, remainder: usize) -> usize
     ensures { result ≡ lowest base remainder }
 {
     if remainder == 0 {
-        return (base + bits::SAMPLE_ZERO) % 65536 + 98304;
+        (base + bits::SAMPLE_ZERO) % 65536 + 98304
+    } else {
+        bits::VALUE_ZERO - bits::power(remainder - 1)
     }
-    bits::VALUE_ZERO - bits::power(remainder - 1)
 }
 
 // The first value past those that it serves, 131,072 added.
@@ -52,41 +53,41 @@ fn beyond_of(base: usize, remainder: usize) -> usize
     ensures { result ≡ beyond base remainder }
 {
     if remainder == 0 {
-        return (base + bits::SAMPLE_ZERO) % 65536 + 98305;
+        (base + bits::SAMPLE_ZERO) % 65536 + 98305
+    } else {
+        bits::VALUE_ZERO + bits::power(remainder - 1)
     }
-    bits::VALUE_ZERO + bits::power(remainder - 1)
 }
 
 // A structure's form.
+#[tactic(auto, unfolding(crate::specs::InnerForm::form_of))]
 fn form_of(c: Structure) -> Form
     requires { (c.prefix ≤ 32) × (c.prefix ≤ c.whole) × (c.whole ≤ c.prefix + 16) × (c.base < 65536) }
     ensures { result ≡ form_of c }
 {
     let prefix = c.prefix;
     let remainder = c.whole - prefix;
-    let base = c.base;
-    let word = bits::turn(prefix, c.code);
-    if c.mode == 0 {
-        return Form {
-            prefix,
-            remainder,
-            to: base,
-            lo: 0,
-            hi: 0,
-            word,
-        };
-    }
+    let (to, lo, hi) = if c.mode == 0 {
+        (c.base, 0, 0)
+    } else {
+        (
+            0,
+            lowest_of(c.base, remainder),
+            beyond_of(c.base, remainder),
+        )
+    };
     Form {
         prefix,
         remainder,
-        to: 0,
-        lo: lowest_of(base, remainder),
-        hi: beyond_of(base, remainder),
-        word,
+        to,
+        lo,
+        hi,
+        word: bits::turn(prefix, c.code),
     }
 }
 
 // The form at place k of table t.
+#[tactic(auto, unfolding(crate::specs::InnerForm::form_at))]
 pub fn form_at(tab: &[u32], t: usize, k: usize) -> Form
     requires { (length tab.now ≡ room_numbers) × (t < 8) × (k < 64) }
     ensures { result ≡ form_at tab.now t k }
@@ -103,6 +104,7 @@ pub fn form_at(tab: &[u32], t: usize, k: usize) -> Form
 }
 
 // A form is put at place k of table t.
+#[tactic(auto, unfolding(crate::specs::InnerForm::numbers_of))]
 fn put_form(tab: &mut [u32], t: usize, k: usize, f: Form)
     requires tab_len { (length tab.old ≡ room_numbers) × (t < 8) × (k < 64) }
     requires prefix_bound { (f.prefix < 4294967296) × (f.remainder < 4294967296) × (f.to < 4294967296) }
@@ -110,13 +112,16 @@ fn put_form(tab: &mut [u32], t: usize, k: usize, f: Form)
     ensures { tab.new ≡ take (t * table_numbers + 1 + k * 6) tab.old ++
         (numbers_of f ++ drop (t * table_numbers + 7 + k * 6) tab.old) }
 {
-    let o = t * TABLE + k * 6;
-    tab[o + 1] = f.prefix as u32;
-    tab[o + 2] = f.remainder as u32;
-    tab[o + 3] = f.to as u32;
-    tab[o + 4] = f.lo as u32;
-    tab[o + 5] = f.hi as u32;
-    tab[o + 6] = f.word as u32;
+    let numbers = [
+        f.prefix as u32,
+        f.remainder as u32,
+        f.to as u32,
+        f.lo as u32,
+        f.hi as u32,
+        f.word as u32,
+    ];
+    let o = t * TABLE + 1 + k * 6;
+    tab[o..o + 6].copy_from_slice(&numbers);
 }
 
 // The n structures from a place of Section 2's data on are put as table t.
@@ -126,25 +131,20 @@ fn put_table(s: &[u8], o: usize, n: usize, tables: usize, tab: &mut [u32], t: us
     ensures { Says (structures_at s.now o n) tab.new t × Beside tab.old tab.new t }
 {
     tab[t * TABLE] = n as u32;
-    let mut from = o;
-    let mut k = 0;
-    while k < n {
-        put_form(tab, t, k, form_of(tables::structure_at(s, from)));
-        from += 9;
-        k += 1;
+    for k in 0..n {
+        put_form(tab, t, k, form_of(tables::structure_at(s, o + 9 * k)));
     }
 }
 
-// The default table is put as the first.
+// The default table is put as the first. (One function with `put_table` would take a closure that makes the structures, and its
+// contract would say of each what `tables_right` and `default_structure` say: more than the loop that it saves.)
 fn put_default(tab: &mut [u32])
     requires { length tab.old ≡ room_numbers }
     ensures { Says default_table tab.new 0 }
 {
     tab[0] = 19;
-    let mut k = 0;
-    while k < 19 {
+    for k in 0..19 {
         put_form(tab, 0, k, form_of(tables::default_structure(k)));
-        k += 1;
     }
 }
 
@@ -154,10 +154,8 @@ fn put_none(tab: &mut [u32], n: usize)
     ensures { ((t : ℕ) → n ≤ t → t < 8 → Says [] tab.new t)
         × ((i : ℕ) → i < n * table_numbers → get_or tab.new i 0 ≡ get_or tab.old i 0) }
 {
-    let mut t = n;
-    while t < 8 {
+    for t in n..8 {
         tab[t * TABLE] = 0;
-        t += 1;
     }
 }
 
@@ -168,11 +166,9 @@ fn put_tables(s: &[u8], o: usize, n: usize, tab: &mut [u32])
     ensures { (t : ℕ) → t < n → Says (get_or (tables_from s.now o n) t []) tab.new t }
 {
     let mut from = o;
-    let mut t = 0;
-    while t < n {
+    for t in 0..n {
         put_table(s, from + 2, wire::number16(s, from), n, tab, t);
         from = tables::after_table(s, from);
-        t += 1;
     }
 }
 
@@ -184,11 +180,11 @@ fn put_all(s: &[u8], at: usize, spare: usize, tab: &mut [u32])
     if tables::is_default(s, at) {
         put_default(tab);
         put_none(tab, 1);
-        return;
+    } else {
+        let n = wire::number16(s, at);
+        put_tables(s, at + 2, n, tab);
+        put_none(tab, n);
     }
-    let n = wire::number16(s, at);
-    put_tables(s, at + 2, n, tab);
-    put_none(tab, n);
 }
 
 // Structure k of table t is what to try first wherever its prefix begins the first eight bits, unless it is longer than these. The
@@ -208,11 +204,8 @@ fn put_guess(tab: &mut [u32], t: usize, k: usize)
     if 256 - many < from {
         return;
     }
-    let mut b = 0;
-    while b < many {
-        tab[GUESSES + t * GUESSES_OF_A_TABLE + from + b] = mark;
-        b += 1;
-    }
+    let o = GUESSES + t * GUESSES_OF_A_TABLE + from;
+    tab[o..o + many].fill(mark);
 }
 
 // Puts the guesses of table t, by its structures.
@@ -220,14 +213,9 @@ fn put_guesses(tab: &mut [u32], t: usize)
     requires { (length tab.old ≡ room_numbers) × (t < 8) }
     ensures { SameTables tab.old tab.new }
 {
-    let n = tab[t * TABLE] as usize;
-    if 64 < n {
-        return;
-    }
-    let mut k = 0;
-    while k < n {
+    let n = tab[t * TABLE].min(64) as usize;
+    for k in 0..n {
         put_guess(tab, t, k);
-        k += 1;
     }
 }
 
@@ -237,10 +225,8 @@ pub fn compile(s: &[u8], at: usize, spare: usize, tab: &mut [u32])
     ensures { Compiled (tables_in s.now at) tab.new }
 {
     put_all(s, at, spare, tab);
-    let mut t = 0;
-    while t < 8 {
+    for t in 0..8 {
         put_guesses(tab, t);
-        t += 1;
     }
 }
 

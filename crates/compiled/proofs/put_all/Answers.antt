@@ -35,25 +35,25 @@ put_tables-requires c =
     let r = own (goal.at.put_tables-requires c).After-number16-n in
     record { tab_len = (c.requires.0, omega (arith, r.most), omega arith); n_value = rw c.number16-n.ensures.0 r.right }
 
-pub put_none-requires-2 : goal.put_none-requires-2
-put_none-requires-2 c =
-    let r = own (goal.at.put_none-requires-2 c).After-number16-n in
+pub put_none-requires-else-is_default : goal.put_none-requires-else-is_default
+put_none-requires-else-is_default c =
+    let r = own (goal.at.put_none-requires-else-is_default c).After-number16-n in
     (c.put_tables.auto.tab ∙ c.requires.0, omega (arith, r.most, c.number16-n.ensures.0))
 
-pub returns : goal.returns
+pub returns-else-is_default : goal.returns-else-is_default
 unfolding tables_in
-returns c =
+returns-else-is_default c =
     let a = c.args in
     let n = c.number16-n.result in
     let e = c.number16-n.ensures.0 in
-    let r = own (goal.at.returns c).After-number16-n in
+    let r = own (goal.at.returns-else-is_default c).After-number16-n in
     rw (r.own, sym e)
-    (ready (tables_from a.s.now (a.at + 2) n) n c.put_tables.new.tab c.put_none-2.new.tab
+    (ready (tables_from a.s.now (a.at + 2) n) n c.put_tables.new.tab c.put_none-else-is_default.new.tab
     (length_tables a.s.now (a.at + 2) n)
     (omega (arith, r.some))
     (omega (arith, r.most))
     (rw e r.right)
     (tables_two a.s.now (λ i. (c.type_inv.s i).fits) (a.at + 2) n)
-    (c.put_none-2.auto.tab ∙ c.put_tables.auto.tab ∙ c.requires.0)
+    (c.put_none-else-is_default.auto.tab ∙ c.put_tables.auto.tab ∙ c.requires.0)
     c.put_tables.ensures
-    c.put_none-2.ensures)
+    c.put_none-else-is_default.ensures)

@@ -23,7 +23,7 @@ unfolding default_table two_values
 nineteen = refl
 
 pub loop-k-init : goal.loop-k-init
-loop-k-init c = (omega arith, upto_start default_table c.args.tab.now 0 19 (omega arith) (omega arith) (sym nineteen))
+loop-k-init c = upto_start default_table c.args.tab.now 0 19 (omega arith) (omega arith) (sym nineteen)
 
 -- the structure that a turn takes is right
 right : (c : After-default_structure) → structure_right 1 c.default_structure.result ≡ true
@@ -47,21 +47,16 @@ form_of-requires c = let f = fine 1 c.default_structure.result (right c) in
 pub put_form-requires : goal.put_form-requires
 put_form-requires c = let fit = form_fine 1 c.default_structure.result (omega arith) (right (goal.at.put_form-requires c).After-default_structure) in
     let room = form_room {f = c.form_of.result} (rw c.form_of.ensures fit) in
-    record { tab_len = (c.loop-k.invariant.1.room, omega arith, omega arith); prefix_bound = room.0; lo_bound = room.1 }
+    record { tab_len = (c.loop-k.invariant.room, omega arith, omega arith); prefix_bound = room.0; lo_bound = room.1 }
 
 pub loop-k-preserved : goal.loop-k-preserved
 loop-k-preserved c =
-    let l = c.loop-k in (
-      omega arith,
-      upto_turn c.form_of.result c.put_form.new.tab l.invariant.1 (omega arith) (omega (arith, c))
-          (c.form_of.ensures ∙ ap form_of c.default_structure.ensures)
-          c.put_form.auto.tab
-          c.put_form.ensures,
-    )
-
-pub shape_of-tab : goal.shape_of-tab
-shape_of-tab c = c.loop-k.invariant.1.room ∙ sym c.requires
+    let l = c.loop-k in
+    upto_turn c.form_of.result c.put_form.new.tab l.invariant (omega arith) (omega (arith, c))
+    (c.form_of.ensures ∙ ap form_of c.default_structure.ensures)
+    c.put_form.auto.tab
+    c.put_form.ensures
 
 pub returns : goal.returns
 returns c = let l = c.loop-k in
-    (upto_end c.args.tab.now 0 19 l.k l.invariant.1 (omega (arith, nineteen))).0
+    (upto_end c.args.tab.now 0 19 l.k l.invariant (omega (arith, nineteen))).0

@@ -1,11 +1,7 @@
 -- With k structures passed the table has its count and the first k forms (`Upto`); the default table is right, so each form fits.
-use Prim.Native.Nat.{◌-◌, ◌≤◌}
 use Rattle.tables.specs.Default.{default_table}
 use Rattle.compiled.proofs.Putting.{Upto}
 use Rattle.compiled.proofs.put_default.Given as goal
 
 abbrev pub invariant-loop-k : goal.invariant-loop-k
-invariant-loop-k l = (l.k ≤ 19) × Upto default_table l.initial.tab l.tab 0 l.k
-
-abbrev pub decreases-loop-k : goal.decreases-loop-k
-decreases-loop-k l = 19 - l.k
+invariant-loop-k l = Upto default_table l.initial.tab l.tab 0 l.k

@@ -1,4 +1,4 @@
-use Prim.Native.Nat.{◌+◌, ◌<◌}
+use Prim.Native.Nat.{◌+◌, ◌*◌, ◌<◌}
 use mathlib.Core.Path.{◌≡◌, sym, ap, ◌∙◌}
 use mathlib.Core.Bool.{true}
 use native.Mathlib.Omega.{arith}
@@ -15,12 +15,9 @@ use Rattle.compiled.proofs.put_table.Goals as goal
 use Rattle.compiled.proofs.put_table.Goals.{After-structure_at}
 
 pub loop-k-init : goal.loop-k-init
-loop-k-init c = let a = c.args in (
-  omega arith,
-  omega arith,
-  upto_start (structures_at a.s.now a.o a.n) a.tab.now a.t a.n (omega arith) (omega arith)
-      (sym (length_structures_at a.s.now a.o a.n)),
-)
+loop-k-init c = let a = c.args in
+    upto_start (structures_at a.s.now a.o a.n) a.tab.now a.t a.n (omega arith) (omega arith)
+    (sym (length_structures_at a.s.now a.o a.n))
 
 -- the structure that a turn reads is the next of the table
 next : (c : After-structure_at) →
@@ -30,7 +27,6 @@ next c =
     let a = c.args in
     let l = c.loop-k in
     c.structure_at.ensures
-    ∙ ap (structure_at a.s.now) l.invariant.1
     ∙ sym (get_d_structures_at a.s.now a.o a.n l.k (omega arith))
 
 -- so it is right
@@ -55,31 +51,25 @@ form_of-requires c = let a = c.args in
       f.within,
       f.rest,
       ap (λ (d : Structure). d.base) c.structure_at.ensures,
-      known (l.from + 3),
-      known (l.from + 3 + 1),
+      known (c.args.o + 9 * l.k + 3),
+      known (c.args.o + 9 * l.k + 3 + 1),
     )
 
 pub put_form-requires : goal.put_form-requires
 put_form-requires c = let tables = c.args.tables in
     let fit = form_fine tables c.structure_at.result (omega arith) (right (goal.at.put_form-requires c).After-structure_at) in
     let room = form_room {f = c.form_of.result} (rw c.form_of.ensures fit) in
-    record { tab_len = (c.loop-k.invariant.2.room, omega arith, omega arith); prefix_bound = room.0; lo_bound = room.1 }
+    record { tab_len = (c.loop-k.invariant.room, omega arith, omega arith); prefix_bound = room.0; lo_bound = room.1 }
 
 pub loop-k-preserved : goal.loop-k-preserved
 loop-k-preserved c =
-    let l = c.loop-k in (
-      omega arith,
-      omega arith,
-      upto_turn c.form_of.result c.put_form.new.tab l.invariant.2 (omega (arith, c)) (omega (arith, c))
-          (c.form_of.ensures ∙ ap form_of (next (goal.at.loop-k-preserved c).After-structure_at))
-          c.put_form.auto.tab
-          c.put_form.ensures,
-    )
-
-pub shape_of-tab : goal.shape_of-tab
-shape_of-tab c = c.loop-k.invariant.2.room ∙ sym c.requires.tab_len.0
+    let l = c.loop-k in
+    upto_turn c.form_of.result c.put_form.new.tab l.invariant (omega (arith, c)) (omega (arith, c))
+    (c.form_of.ensures ∙ ap form_of (next (goal.at.loop-k-preserved c).After-structure_at))
+    c.put_form.auto.tab
+    c.put_form.ensures
 
 pub returns : goal.returns
 returns c = let a = c.args in
     let l = c.loop-k in
-    upto_end a.tab.now a.t a.n l.k l.invariant.2 (omega (arith, length_structures_at a.s.now a.o a.n))
+    upto_end a.tab.now a.t a.n l.k l.invariant (omega (arith, length_structures_at a.s.now a.o a.n))

@@ -2,7 +2,6 @@ use Prim.Native.Nat.{ℕ, ◌+◌, ◌-◌, ◌<◌}
 use mathlib.Core.Path.{◌≡◌, sym, ap, ◌∙◌}
 use mathlib.Core.Bool.{true}
 use mathlib.Core.List.{[]}
-use native.Mathlib.Nat.{sub-zero}
 use native.Mathlib.Omega.{arith}
 use lib.ListN.{length, get_or, drop}
 use Rattle.wire.specs.Numbers.{number_at}
@@ -14,9 +13,6 @@ use Rattle.compiled.proofs.Putting.{tables_next, tables_turn}
 use Rattle.compiled.proofs.put_tables.Goals as goal
 use Rattle.compiled.proofs.put_tables.Goals.{In-loop-t}
 
-pub loop-t-init : goal.loop-t-init
-loop-t-init c = (omega arith, omega arith, c.requires.tab_len.0, rw sub-zero, λ u h. absurd (omega arith))
-
 -- the table at the place that the loop has reached is the next
 next : (c : In-loop-t) →
     let a = c.args in
@@ -27,7 +23,7 @@ next : (c : In-loop-t) →
 next c =
     let a = c.args in
     let l = c.loop-t in
-    tables_next a.s.now l.from a.n l.t (tables_from a.s.now a.o a.n) (omega arith) l.invariant.3
+    tables_next a.s.now l.from a.n l.t (tables_from a.s.now a.o a.n) (omega arith) l.invariant.1
 
 -- so it is right
 right : (c : In-loop-t) →
@@ -48,7 +44,7 @@ put_table-requires c =
     let r = table_right_lem a.n (table_at a.s.now l.from) (right (goal.at.put_table-requires c).In-loop-t) in
     let n = c.number16.ensures.0 in
     let most = rw (length_structures_at a.s.now (l.from + 2) (number_at 2 a.s.now l.from)) at r.most in
-    record { tab_len = (l.invariant.2, omega arith, omega arith, omega arith, omega arith); n_value = rw n r.right }
+    record { tab_len = (c.loop-t.auto.tab ∙ c.requires.tab_len.0, omega arith, omega arith, omega arith, omega arith); n_value = rw n r.right }
 
 pub loop-t-preserved : goal.loop-t-preserved
 unfolding table_at
@@ -58,18 +54,10 @@ loop-t-preserved c =
     let all = tables_from a.s.now a.o a.n in
     let n = c.number16.ensures.0 in
     let here = (next (goal.at.loop-t-preserved c).In-loop-t).0 ∙ ap (structures_at a.s.now (l.from + 2)) (sym n) in (
-      omega (arith, c),
       omega (arith, c, after_right a.n a.s.now l.from (right (goal.at.loop-t-preserved c).In-loop-t)),
-      c.put_table.auto.tab ∙ l.invariant.2,
       ap (λ (o : ℕ). tables_from a.s.now o (a.n - (l.t + 1))) c.after_table-from.ensures.0 ∙ (next (goal.at.loop-t-preserved c).In-loop-t).1,
       tables_turn a.n all l.tab c.put_table.new.tab l.t c.requires.n_value
           (omega (arith, c, length_tables a.s.now a.o a.n))
-          l.invariant.4
+          l.invariant.2
           (rw here c.put_table.ensures),
     )
-
-pub shape_of-tab : goal.shape_of-tab
-shape_of-tab c = c.loop-t.invariant.2 ∙ sym c.requires.tab_len.0
-
-pub returns : goal.returns
-returns c = λ t h. c.loop-t.invariant.4 t (omega arith)
