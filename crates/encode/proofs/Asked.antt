@@ -1,12 +1,12 @@
 -- Section 2 as it is given, 17, 7 and 11 for the work space, and what encoding answers. Assumes nothing.
-use Prim.Native.Nat.{ℕ, zero, suc, ◌*◌, ◌≤◌, ◌<◌}
+use Prim.Native.Nat.{ℕ, zero, suc, ◌*◌, ◌≤◌}
 use mathlib.Core.Path.{◌≡◌, refl, sym, ◌∙◌}
 use mathlib.Core.Bool.{true, false, ◌&&◌, cond, and-eq-true_iff}
 use mathlib.Core.List.{List, []}
 use mathlib.Core.Logic.{⊎_elim}
-use mathlib.Core.Option.{Option, none}
+use mathlib.Core.Option.{none}
 use native.Mathlib.Omega.{arith}
-use borrow.Author.Tests.{le-leb, lt-leb, leb-true, eq-eqb, ne_eqb}
+use borrow.Author.Tests.{leb-true, eq-eqb, ne_eqb}
 use lib.Dec.{leb, eqb}
 use lib.IntN.{ℤ}
 use lib.ListN.{length, replicate}
@@ -14,9 +14,13 @@ use Rattle.wire.proofs.Laws.{kept_first, unlike}
 use Rattle.tables.specs.Section2.{is_default, table_count, tables_in, section2_right}
 use Rattle.tables.proofs.Laws.{length_tables, section2_right_lem}
 use Rattle.samples.specs.Differences.{differences}
+use Rattle.std.specs.Prelude.{Err}
+use Rattle.refusals.specs.declared.Refusal.{Refusal}
+use Rattle.refusals.specs.Refusals.{number_of}
 use Rattle.encode.specs.declared.Coded.{Coded}
-use Rattle.encode.specs.Encoding.{tables_given, asked_right, tables_given_right, work_right, asked_refusal, coded_as, work_searched, LeadEncoding, refused, answered}
-use Rattle.encode.specs.InnerEncode.{Written, cleared_if, held_for}
+use Rattle.encode.specs.Encoding.{tables_given, asked_right, tables_given_right, work_right, asked_refusal, work_searched, LeadEncoding, refused, answered}
+use Rattle.encode.specs.InnerEncode.{coded_in, Written, cleared_if, held_for}
+use Rattle.encode.proofs.Found.{refused_coded, refused_next}
 
 -- ---- Section 2 as it is given
 
@@ -48,54 +52,23 @@ module _ (s2 : List ℕ) (h : length s2 ≡ 0 → ⊥) where
       go zero g = absurd (g refl)
       go (suc n) g = refl
 
-  pub count_default : is_default s2 0 ≡ true → 1 ≡ length (tables_given s2)
-  unfolding tables_in
-  count_default d = rw (tables_some, d)
+-- how many tables Section 2's data mean
+pub count_default : (s : List ℕ) → is_default s 0 ≡ true → 1 ≡ length (tables_in s 0)
+unfolding tables_in
+count_default s d = rw d
 
-  pub count_own : is_default s2 0 ≡ false → tables_given_right s2 ≡ true → (table_count s2 0 ≡ length (tables_given s2)) × (table_count s2 0 ≤ 8)
-  unfolding tables_in
-  count_own d right =
-      let r = section2_right_lem 0 s2 0 (sym given_some ∙ right) in
-      (rw (tables_some, d) (sym (length_tables s2 2 (table_count s2 0))), ⊎_elim (λ y. unlike cc) (λ t. t.most) r)
+pub count_own : (s : List ℕ) → is_default s 0 ≡ false → section2_right 0 s 0 ≡ true → (table_count s 0 ≡ length (tables_in s 0)) × (table_count s 0 ≤ 8)
+unfolding tables_in
+count_own s d right =
+    (rw d (sym (length_tables s 2 (table_count s 0))), ⊎_elim (λ y. unlike cc) (λ t. t.most) (section2_right_lem 0 s 0 right))
 
 -- ---- 17, 7 and 11 for the work space
-
-pub asked_short : (count order : ℕ) → count < 1 → false ≡ asked_right count order
-unfolding asked_right
-asked_short count order h = rw (lt-leb 1 count h)
-
-pub asked_long : (count order : ℕ) → 1 ≤ count → 65536 < count → false ≡ asked_right count order
-unfolding asked_right
-asked_long count order h g = rw (le-leb 1 count h, lt-leb count 65536 g)
-
-pub asked_order : (count order : ℕ) → 1 ≤ count → count ≤ 65536 → leb order 2 ≡ asked_right count order
-unfolding asked_right
-asked_order count order h g = rw (le-leb 1 count h, le-leb count 65536 g)
 
 pub asked_most : (count order : ℕ) → asked_right count order ≡ true → count ≤ 65536
 unfolding asked_right
 asked_most count order h =
     let a = (and-eq-true_iff (leb 1 count) (leb count 65536 && leb order 2)).0 h in
     leb-true count 65536 ((and-eq-true_iff (leb count 65536) (leb order 2)).0 a.1).0
-
-module _ (s2 : List ℕ) (count order work : ℕ) where
-  pub refused_asked : asked_right count order ≡ false → 17 ≡ asked_refusal s2 count order work
-  unfolding asked_refusal
-  refused_asked e = rw e
-
-  pub refused_given : asked_right count order ≡ true → tables_given_right s2 ≡ false → 7 ≡ asked_refusal s2 count order work
-  unfolding asked_refusal
-  refused_given e g = rw (e, g)
-
-  pub refused_work : asked_right count order ≡ true → tables_given_right s2 ≡ true → work < count * length (tables_given s2)
-      → 11 ≡ asked_refusal s2 count order work
-  unfolding asked_refusal work_right
-  refused_work e g l = rw (e, g, lt-leb (count * length (tables_given s2)) work l)
-
-  pub refused_none : asked_right count order ≡ true → tables_given_right s2 ≡ true → count * length (tables_given s2) ≤ work
-      → 0 ≡ asked_refusal s2 count order work
-  unfolding asked_refusal work_right
-  refused_none e g l = rw (e, g, le-leb (count * length (tables_given s2)) work l)
 
 -- nothing is refused before the search
 pub asked_none : (s2 : List ℕ) (count order work : ℕ) → asked_refusal s2 count order work ≡ 0
@@ -124,10 +97,9 @@ cleared_after s2 work held e = rw e (go (length s2))
     go (suc n) = rw (ne_eqb (suc n) 0 (λ e. absurd (omega arith)))
 
 module _ (s2 : List ℕ) (xs : List ℤ) (order : ℕ) (work out : List ℕ) where
-  pub encoded_refused : (n : ℕ) (r : Coded) → n ≡ asked_refusal s2 (length xs) order (length work) → (n ≡ 0 → ⊥)
-      → ((m : ℕ) (found : Option (List ℕ)) → n ≡ suc m → r ≡ coded_as (suc m) found) → LeadEncoding s2 xs order work out r work out
-  encoded_refused zero r e h answer = absurd (h refl)
-  encoded_refused (suc m) r e h answer = rw (answer m none refl) (refused m (sym e))
+  pub encoded_refused : (e : Refusal) → number_of e ≡ asked_refusal s2 (length xs) order (length work)
+      → LeadEncoding s2 xs order work out (coded_in (Err e)) work out
+  encoded_refused e h = let m = refused_next e in rw (refused_coded e none, m.1) (refused m.0 (sym h ∙ m.1))
 
   pub encoded_answered : (r : Coded) (work' out' : List ℕ) (held : ℕ) → asked_refusal s2 (length xs) order (length work) ≡ 0
       → Written (tables_given s2) (differences order xs) out r out' → held ≡ held_for (length s2) → work' ≡ cleared_if held work

@@ -1,13 +1,14 @@
 -- The meaning of the bits found, 15, 16 and 11 for the output, and the answer then. Assumes nothing.
-use Prim.Native.Nat.{ℕ, zero, suc, ◌+◌, ◌/◌, ◌≤◌, ◌<◌}
+use Prim.Native.Nat.{ℕ, zero, suc, ◌+◌, ◌-◌, ◌/◌, ◌≤◌, ◌<◌}
 use mathlib.Core.Path.{◌≡◌, refl, sym, ap, ◌∙◌}
+use mathlib.Core.Bool.{Bool, true, false}
 use mathlib.Core.List.{List, [], ◌++◌}
 use mathlib.Core.Logic.{inl, inr}
 use mathlib.Core.Option.{Option, none, some}
 use native.Mathlib.Decide.{dec_lt}
 use native.Mathlib.Omega.{arith}
-use borrow.Author.Tests.{le-leb, lt-leb, leb-true}
-use lib.Dec.{leb}
+use borrow.Author.Tests.{le-leb, lt-leb, leb-true, eq-eqb, eqb-true}
+use lib.Dec.{leb, eqb}
 use lib.IntN.{ℤ}
 use lib.ListN.{length, drop}
 use Rattle.wire.proofs.Laws.{kept_first}
@@ -18,9 +19,20 @@ use Rattle.shortest.specs.Shortest.{Shortest}
 use Rattle.shortest.proofs.Bridge.{exact_shortest, exact_long, exact_nothing}
 use Rattle.shortest.proofs.Existence.{shortest_there}
 use Rattle.search.specs.InnerSearch.{cap, Planned}
-use Rattle.encode.specs.declared.Coded.{Coded}
-use Rattle.encode.specs.Encoding.{SearchFinds, found_refusal, coded_as}
-use Rattle.encode.specs.InnerEncode.{bits_found, Sized, Laid, Written}
+use Rattle.refusals.specs.declared.Refusal.{Refusal}
+use Rattle.refusals.specs.declared.Refusal.TheVariants.{Length, RecordCheck, Section0, Placement, SectionCheck, HeaderFields, CodeTables, LeadSections, Disagreement, NotFound, Room, NoValue, OutOfRange, LeftOver, NoCode, TooLong, Request, Date, Index}
+use Rattle.refusals.specs.Refusals.{number_of}
+use Rattle.std.specs.Prelude.{Ok, Err}
+use Rattle.encode.specs.Encoding.{SearchFinds, found_refusal, coded_as, out_as}
+use Rattle.encode.specs.InnerEncode.{bits_found, coded_in, Sized, Laid, Written}
+
+-- ---- whether a slice is empty
+
+pub no_elements : {n : ℕ} {b : Bool} → b ≡ eqb n 0 → b ≡ true → n ≡ 0
+no_elements {n} e t = eqb-true n 0 (sym e ∙ t)
+
+pub some_element : {n : ℕ} {b : Bool} → b ≡ eqb n 0 → b ≡ false → n ≡ 0 → ⊥
+some_element {n} e t z = cc (sym (eq-eqb n 0 z) ∙ sym e ∙ t)
 
 -- ---- the bits found
 
@@ -89,25 +101,65 @@ fits_found bits room (some bs) e z =
     let b = leb-true (bytes_for (length bs)) room q.0 in
     (omega arith, omega arith)
 
--- what is answered
-pub written_refused : (tables : List (List Structure)) (vs : List ℤ) (out : List ℕ) (bits n : ℕ) (r : Coded) → Sized tables vs bits
-    → ((found : Option (List ℕ)) → bits ≡ bits_found found → n ≡ found_refusal (length out) found) → (n ≡ 0 → ⊥)
-    → ((m : ℕ) (found : Option (List ℕ)) → n ≡ suc m → r ≡ coded_as (suc m) found) → Written tables vs out r out
-written_refused tables vs out bits zero r s refusal h answer = absurd (h refl)
-written_refused tables vs out bits (suc m) r s refusal h answer =
-    let e = refusal s.0 s.2 in
-    (s.0, s.1, rw (← e) (answer m s.0 refl), rw (← e) refl)
+-- ---- what is answered
 
-pub written_put : (tables : List (List Structure)) (vs : List ℤ) (out out' : List ℕ) (bits n : ℕ) (r : Coded) → Sized tables vs bits
-    → ((found : Option (List ℕ)) → bits ≡ bits_found found → n ≡ found_refusal (length out) found) → n ≡ 0
-    → ((bs : List ℕ) → length bs ≡ bits → r ≡ coded_as 0 (some bs))
-    → ((bs : List ℕ) → Shortest tables vs bs → out' ≡ packed bs ++ drop (bytes_for (length bs)) out) → Written tables vs out r out'
-written_put tables vs out out' bits n r s refusal z answer put =
-    let e : found_refusal (length out) s.0 ≡ 0 = sym (refusal s.0 s.2) ∙ z in
+-- a refusal has a number
+refusal_some : (e : Refusal) → 0 < number_of e
+refusal_some Length = omega arith
+refusal_some RecordCheck = omega arith
+refusal_some Section0 = omega arith
+refusal_some Placement = omega arith
+refusal_some SectionCheck = omega arith
+refusal_some HeaderFields = omega arith
+refusal_some CodeTables = omega arith
+refusal_some LeadSections = omega arith
+refusal_some Disagreement = omega arith
+refusal_some NotFound = omega arith
+refusal_some Room = omega arith
+refusal_some NoValue = omega arith
+refusal_some OutOfRange = omega arith
+refusal_some LeftOver = omega arith
+refusal_some NoCode = omega arith
+refusal_some TooLong = omega arith
+refusal_some Request = omega arith
+refusal_some Date = omega arith
+refusal_some Index = omega arith
+
+-- with it nothing else is answered, and the output stays
+pub refused_coded : (e : Refusal) (found : Option (List ℕ)) → coded_in (Err e) ≡ coded_as (number_of e) found
+refused_coded e found = go (number_of e) (refusal_some e)
+  where
+    go : (n : ℕ) → 0 < n → record { refusal = n; bytes = 0; bits = 0 } ≡ coded_as n found
+    go zero h = absurd (omega arith)
+    go (suc n) h = refl
+
+refused_out : (n : ℕ) (found : Option (List ℕ)) (out : List ℕ) → 0 < n → out ≡ out_as n found out
+refused_out zero found out h = absurd (omega arith)
+refused_out (suc n) found out h = refl
+
+pub refused_next : (e : Refusal) → (m : ℕ) × (number_of e ≡ suc m)
+refused_next e = (number_of e - 1, omega (arith, refusal_some e))
+
+pub written_refused : (tables : List (List Structure)) (vs : List ℤ) (out : List ℕ) (bits : ℕ) (e : Refusal) → Sized tables vs bits
+    → ((found : Option (List ℕ)) → bits ≡ bits_found found → number_of e ≡ found_refusal (length out) found)
+    → Written tables vs out (coded_in (Err e)) out
+written_refused tables vs out bits e s refusal =
+    let n = refusal s.0 s.2 in
+    (s.0, s.1, rw (← n) (refused_coded e s.0), rw (← n) (refused_out (number_of e) s.0 out (refusal_some e)))
+
+-- or the stream's bytes and bits
+pub written_put : (tables : List (List Structure)) (vs : List ℤ) (out out' : List ℕ) (bits : ℕ) → Sized tables vs bits
+    → ((found : Option (List ℕ)) → bits ≡ bits_found found → 0 ≡ found_refusal (length out) found)
+    → ((bs : List ℕ) → Shortest tables vs bs → out' ≡ packed bs ++ drop (bytes_for (length bs)) out)
+    → Written tables vs out (coded_in (Ok bits)) out'
+written_put tables vs out out' bits s refusal put =
+    let e : found_refusal (length out) s.0 ≡ 0 = sym (refusal s.0 s.2) in
     let few = (fits_found bits (length out) s.0 s.2 e).0 in
     go s.0 s.1 s.2 e few
   where
     go : (found : Option (List ℕ)) → SearchFinds tables vs found → bits ≡ bits_found found → found_refusal (length out) found ≡ 0 → bits < 524281
-        → Written tables vs out r out'
+        → Written tables vs out (coded_in (Ok bits)) out'
     go none f b e few = absurd (omega arith)
-    go (some bs) f b e few = (some bs, f, rw e (answer bs (omega arith)), rw e (put bs f))
+    go (some bs) f b e few =
+        let same : length bs ≡ bits = omega arith in
+        (some bs, f, rw (e, same) refl, rw e (put bs f))

@@ -1,5 +1,5 @@
 -- The walk: what is written and what is left are the shortest stream. Assumes nothing.
-use Prim.Native.Nat.{ℕ, ◌+◌, ◌-◌, ◌*◌, ◌^◌, ◌≤◌, ◌<◌}
+use Prim.Native.Nat.{ℕ, ◌+◌, ◌-◌, ◌*◌, ◌≤◌, ◌<◌}
 use mathlib.Core.Path.{◌≡◌, refl, sym, ap, ◌∙◌, subst}
 use mathlib.Core.Bool.{true}
 use mathlib.Core.List.{List, [], ◌∷◌, ◌++◌, append_assoc, append-nil}
@@ -22,7 +22,7 @@ use Rattle.compiled.proofs.Laws.{FineForm}
 use Rattle.reading.proofs.Laws.{to_value}
 use Rattle.packing.specs.declared.Sink.{Sink}
 use Rattle.packing.specs.Packing.{packed, bytes_for}
-use Rattle.packing.specs.InnerSink.{Holds}
+use Rattle.packing.specs.InnerSink.{Holds, bits_put}
 use Rattle.packing.proofs.Laws.{length_packed}
 use Rattle.packing.proofs.Sinks.{holds_length, rest_later}
 use Rattle.paths.specs.InnerPaths.{Kind, dead, gives, leads, There, Best, Alive, Hop}
@@ -54,16 +54,15 @@ unfolding high_first
 code_prefix f v e = rw e (append-nil (high_first f.prefix f.word))
 
 -- a sink holds some bits
-pub holds_some : (out : List ℕ) (s : Sink) → s.part < 8 → s.acc < 2 ^ s.part → s.at ≤ length out
-    → Holds out s (bits_in (take s.at out) ++ high_first s.part s.acc)
-holds_some out s part acc at = record { bits = refl; part = part; acc = acc; at = at }
+pub holds_some : (out : List ℕ) (s : Sink) → s.at ≤ length out → Holds out s (bits_in (take s.at out) ++ high_first s.part s.acc)
+holds_some out s at = record { bits = refl; at = at }
 
 -- the bytes behind a sink's place stay as they were, though more is put
 pub rest_on : (out₀ out out' : List ℕ) (s r : Sink) (w c : List ℕ) → Holds out s w → Holds out' r (w ++ c)
     → drop s.at out ≡ drop s.at out₀ → drop r.at out' ≡ drop r.at out → drop r.at out' ≡ drop r.at out₀
 rest_on out₀ out out' s r w c h g before here =
     let later : s.at ≤ r.at =
-    omega (arith, holds_length out s w h, holds_length out' r (w ++ c) g, length-append w c, h.part, g.part) in
+    omega (arith, holds_length out s w h, holds_length out' r (w ++ c) g, length-append w c, s.open_byte, r.open_byte) in
     here ∙ rest_later s.at r.at out out₀ later before
 
 -- ---- one set of tables
@@ -207,11 +206,9 @@ module _ {tab : List ℕ} {n : ℕ} {vs : List ℤ} {total : ℕ} {out₀ out : 
   pub next_table : (1 ≤ t) × (t ≤ n) × (n ≤ 8)
   next_table = let r = filled.1 in omega (arith, on_some.table, r.most, filled.2)
 
-  -- a sink that can be written to, with room for what is left
-  pub next_sink : (sink.part < 8) × (sink.acc < 2 ^ sink.part) × (sink.at * 8 + sink.part + left ≡ total)
-  next_sink =
-      let h = on_some.holds in
-      (h.part, h.acc, omega (arith, holds_length out sink on_some.w h, on_some.sum))
+  -- the bits put and those left are all
+  pub next_sink : bits_put sink + left ≡ total
+  next_sink = omega (arith, holds_length out sink on_some.w on_some.holds, on_some.sum)
 
   -- the next code, found in the work space
   module _ {work : List ℕ} (plan : (tables : List (List Structure)) → Compiled tables tab → length tables ≡ n → Planned tables vs work total)
@@ -265,7 +262,7 @@ pub going_then : {tab : List ℕ} {n : ℕ} {vs : List ℤ} {total : ℕ} {out�
     → CompiledCount tab n → PartWrittenBy tab n vs total out₀ out s i t left → PartWrittenBy tab n vs total out out' s' i' t' left' → left' < left
     → PartWrittenBy tab n vs total out₀ out' s' i' t' left'
 going_then {out₀ = out₀} {out = out} {s = s} {s' = s'} filled G H less =
-    let later : s.at ≤ s'.at = omega (arith, next_sink filled G, next_sink filled H) in record {
+    let later : s.at ≤ s'.at = omega (arith, next_sink filled G, next_sink filled H, s.open_byte, s'.open_byte) in record {
       same = H.same ∙ G.same;
       behind = H.behind ∙ rest_later s.at s'.at out out₀ later G.behind;
       on = H.on;
@@ -280,7 +277,7 @@ pub going_end : {tab : List ℕ} {n : ℕ} {vs : List ℤ} {total : ℕ} {out₀
 going_end {out₀ = out₀} {out = out} {sink = sink} G none out' put tables ready many bs h =
     let O = G.on tables ready many in
     let whole : bs ≡ O.w = O.all bs h ∙ ap (λ (l : List ℕ). O.w ++ l) (drop_of_length-le O.s {i = 0} (omega (arith, O.rest))) ∙ append-nil O.w in
-    let later : sink.at ≤ bytes_for (length bs) = omega (arith, holds_length out sink O.w O.holds, ap length whole, O.holds.part) in
+    let later : sink.at ≤ bytes_for (length bs) = omega (arith, holds_length out sink O.w O.holds, ap length whole, sink.open_byte) in
     let last : out' ≡ packed bs ++ drop (length (packed bs)) out = put bs (rw whole O.holds) in
     let rest = rest_later sink.at (bytes_for (length bs)) out out₀ later G.behind in
     last ∙ rw (length_packed bs) (ap (λ (l : List ℕ). packed bs ++ l) rest)

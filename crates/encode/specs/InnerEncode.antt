@@ -1,16 +1,19 @@
 -- The conditions for writing a lead's stream, and the state that it leaves. No public contract rests on this.
-use Rattle.std.specs.Prelude.{ℕ, zero, suc, min, ◌+◌, ◌≡◌, List, [], ◌++◌, ◌⊎◌, ℤ, length, drop, replicate}
+use Rattle.std.specs.Prelude.{ℕ, zero, suc, min, ◌+◌, ◌≡◌, List, [], ◌++◌, ◌⊎◌, ℤ, length, drop, replicate, Result, Ok, Err}
 use Rattle.std.proofs.Math.Option.{Option, none, some}
 use Rattle.bits.specs.Bits.{high_first}
 use Rattle.tables.specs.declared.Structure.{Structure}
 use Rattle.compiled.specs.declared.Form.{Form}
 use Rattle.compiled.specs.InnerForm.{room_numbers, Compiled, CompiledOrNone}
 use Rattle.packing.specs.declared.Sink.{Sink}
+use Rattle.packing.specs.Packing.{bytes_for}
 use Rattle.packing.specs.InnerSink.{Holds}
 use Rattle.paths.specs.InnerPaths.{There, Best}
 use Rattle.shortest.specs.Shortest.{Shortest}
 use Rattle.shortest.specs.InnerRule.{twos, rule}
 use Rattle.search.specs.InnerSearch.{cap, Planned}
+use Rattle.refusals.specs.declared.Refusal.{Refusal}
+use Rattle.refusals.specs.Refusals.{number_of}
 use Rattle.encode.specs.declared.Coded.{Coded}
 use Rattle.encode.specs.Encoding.{SearchFinds, found_refusal, coded_as, out_as}
 
@@ -51,6 +54,11 @@ bits_found (some bs) = min cap (length bs)
 -- r is how many bits the shortest stream has
 abbrev pub Sized : List (List Structure) → List ℤ → ℕ → Type 0
 Sized tables vs r = (found : Option (List ℕ)) × SearchFinds tables vs found × (r ≡ bits_found found)
+
+-- an answer, and what it is to C
+abbrev pub coded_in : Result ℕ Refusal → Coded
+coded_in (Ok bits) = record { refusal = 0; bytes = bytes_for bits; bits = bits }
+coded_in (Err e) = record { refusal = number_of e; bytes = 0; bits = 0 }
 
 -- the way of a stream of r bits is in the work space; without Section 2 none is needed
 abbrev pub Laid : List (List Structure) → List ℤ → List ℕ → ℕ → Type 0

@@ -1,21 +1,25 @@
 // Encoding one lead: the shortest stream, packed at the front of the output (the third demand; refusals 7, 11 and 15 to 17).
 #![tactic(auto)]
 
-ghost use Rattle.std.specs.Prelude.{◌≡◌, true, List, [], ◌++◌, ℕ, suc, ◌+◌, ◌*◌, ◌/◌, ◌%◌, ◌^◌, ◌<◌, ◌≤◌, pos, length, get_or, take, drop, replicate};
-ghost use Rattle.std.proofs.Math.Option.{Option, some};
+ghost use Rattle.std.specs.Prelude.{◌≡◌, true, List, [], ◌++◌, ℕ, suc, ◌+◌, ◌*◌, ◌/◌, ◌%◌, ◌^◌, ◌<◌, ◌≤◌, pos, length, get_or, take, drop, replicate, is_some, option_copied, if◌then◌else◌};
+ghost use Rattle.std.specs.Option.{ForSome};
+ghost use Rattle.std.proofs.Math.Option.{Option};
 ghost use Rattle.packing.specs.Packing.{packed, bytes_for};
-ghost use Rattle.packing.specs.InnerSink.{Holds};
+ghost use Rattle.packing.specs.InnerSink.{Holds, bits_put};
+ghost use Rattle.refusals.specs.Refusals.{refusal_in};
 ghost use Rattle.samples.specs.Differences.{differences};
 ghost use Rattle.tables.specs.declared.Structure.{Structure};
-ghost use Rattle.compiled.specs.InnerForm.{room_numbers, Compiled, CompiledOrNone};
+ghost use Rattle.tables.specs.Section2.{section2_right};
+ghost use Rattle.compiled.specs.InnerForm.{room_numbers, Compiled, CompiledOrNone, tables_held};
 ghost use Rattle.shortest.specs.Shortest.{Shortest};
 ghost use Rattle.shortest.specs.InnerRule.{plain_bytes};
 ghost use Rattle.search.specs.InnerSearch.{CompiledCount, Planned};
 ghost use Rattle.encode.specs.Encoding.{tables_given, asked_right, tables_given_right, asked_refusal, found_refusal, coded_as, LeadEncoding};
-ghost use Rattle.encode.specs.InnerEncode.{code_of, PartWrittenBy, CompiledOrNoneCount, bits_found, Sized, Laid, Written, cleared_if, held_for};
+ghost use Rattle.encode.specs.InnerEncode.{code_of, PartWrittenBy, CompiledOrNoneCount, bits_found, coded_in, Sized, Laid, Written, cleared_if, held_for};
 
 use compiled::Form;
 use packing::Sink;
+use refusals::Refusal;
 
 // The answer of encoding a lead: 0 or a refusal number, and on a refusal nothing else; the stream's bytes and bits.
 #[repr(C)]
@@ -26,12 +30,32 @@ pub struct Coded {
     pub bits: u32,
 }
 
+impl From<Result<u32, Refusal>> for Coded {
+    ghost use Rattle.encode.specs.InnerEncode.{coded_in};
+
+    ghost from_gives = { λ answer coded. coded ≡ coded_in answer };
+
+    fn from(answer: Result<u32, Refusal>) -> Coded {
+        match answer {
+            Ok(bits) => Coded {
+                refusal: 0,
+                bytes: bits.div_ceil(8),
+                bits,
+            },
+            Err(e) => Coded {
+                refusal: e.number(),
+                bytes: 0,
+                bits: 0,
+            },
+        }
+    }
+}
+
 // A structure's code for the value at place i: the prefix, then the bits of the remainder. Most codes have none, and their value is
 // not looked at.
 fn put_code(sink: Sink, out: &mut [u8], f: Form, xs: &[i16], order: usize, i: usize) -> Sink
     requires prefix_bound { (f.prefix ≤ 32) × (f.remainder ≤ 16) × (f.word < 2 ^ f.prefix) × (i < length xs.now) }
-    requires part_bound { (sink.part < 8) × (sink.acc < 2 ^ sink.part)
-        × ((sink.at * 8 + sink.part + (f.prefix + f.remainder)) / 8 ≤ length out.old) }
+    requires room { (bits_put sink + (f.prefix + f.remainder)) / 8 ≤ length out.old }
     ensures { ((bs : List ℕ) → Holds out.old sink bs
         → Holds out.new result (bs ++ code_of f (get_or (differences order xs.now) i (pos 0))))
         × (length out.new ≡ length out.old)
@@ -122,22 +146,13 @@ fn plain_bits(xs: &[i16], order: usize) -> usize
     requires { length xs.now ≤ 65536 }
     ensures { Sized [] (differences order xs.now) result }
 {
-    let mut i = 0;
-    while i < xs.len() {
+    for i in 0..xs.len() {
         let v = samples::value_at(xs, order, i);
-        if v < 98304 {
+        if v < 98304 || 163840 <= v {
             return search::NO_STREAM;
         }
-        if 163840 <= v {
-            return search::NO_STREAM;
-        }
-        i += 1;
     }
-    let bits = xs.len() * 16;
-    if bits < search::TOO_LONG {
-        return bits;
-    }
-    search::TOO_LONG
+    (xs.len() * 16).min(search::TOO_LONG)
 }
 
 // Without Section 2: two bytes a value, the least first.
@@ -146,13 +161,9 @@ fn put_plain(xs: &[i16], order: usize, out: &mut [u8])
     ensures { out.new
         ≡ plain_bytes (differences order xs.now) ++ drop (length xs.now * 2) out.old }
 {
-    let mut i = 0;
-    while i < xs.len() {
+    for i in 0..xs.len() {
         let v = samples::value_at(xs, order, i);
-        let low = v % 256;
-        let high = v / 256 % 256;
-        wire::put16(out, i * 2, low + high * 256);
-        i += 1;
+        wire::put16(out, i * 2, v % 65536);
     }
 }
 
@@ -165,7 +176,7 @@ pub fn stream_bits(tab: &[u32], n: usize, xs: &[i16], order: usize, work: &mut [
         × Laid tables (differences order xs.now) work.new result)
         × (length tab.now ≡ 0 → work.new ≡ work.old) }
 {
-    if tab.len() == 0 {
+    if tab.is_empty() {
         return plain_bits(xs, order);
     }
     search::plan(tab, n, xs, order, work)
@@ -188,53 +199,24 @@ pub fn put_stream(
         → (bs : List ℕ) → Shortest tables (differences order xs.now) bs
         → out.new ≡ packed bs ++ drop (bytes_for (length bs)) out.old }
 {
-    if tab.len() == 0 {
+    if tab.is_empty() {
         put_plain(xs, order, out);
         return;
     }
     walk(tab, n, xs, order, work, bits, out);
 }
 
-// 15, 16 or 11 for the output, or 0, where `bits` bits were found.
-fn found_refusal(bits: usize, room: usize) -> u8
-    ensures { (found : Option (List ℕ)) → bits ≡ bits_found found → result ≡ found_refusal room found }
+// 15, 16 or 11 for the output, where `bits` bits were found.
+#[tactic(auto, unfolding(crate::specs::Encoding::found_refusal))]
+fn judge_found(bits: usize, room: usize) -> Result<(), Refusal>
+    ensures { (found : Option (List ℕ)) → bits ≡ bits_found found → refusal_in result ≡ found_refusal room found }
 {
-    if search::TOO_LONG < bits {
-        return 15;
-    }
-    if search::MOST_BITS < bits {
-        return 16;
-    }
-    if room < (bits + 7) / 8 {
-        return 11;
-    }
-    0
+    Refusal::NoCode.unless(bits <= search::TOO_LONG)?;
+    Refusal::TooLong.unless(bits <= search::MOST_BITS)?;
+    Refusal::Room.unless(bits.div_ceil(8) <= room)
 }
 
-// A refusal and nothing else.
-fn refused(refusal: u8) -> Coded
-    ensures { (n : ℕ) (found : Option (List ℕ)) → refusal ≡ suc n → result ≡ coded_as (suc n) found }
-{
-    Coded {
-        refusal,
-        bytes: 0,
-        bits: 0,
-    }
-}
-
-// The answer that goes with a stream of `bits` bits.
-fn answer_for(bits: usize) -> Coded
-    requires { bits < 524281 }
-    ensures { (bs : List ℕ) → length bs ≡ bits → result ≡ coded_as 0 (some bs) }
-{
-    Coded {
-        refusal: 0,
-        bytes: ((bits + 7) / 8) as u32,
-        bits: bits as u32,
-    }
-}
-
-// The stream is looked for and, if nothing is refused, put at the front of the output.
+// The stream is looked for and, if nothing is refused, put at the front of the output. Answered is how many bits it has.
 fn write_stream(
     tab: &[u32],
     n: usize,
@@ -242,30 +224,23 @@ fn write_stream(
     order: usize,
     work: &mut [u8],
     out: &mut [u8],
-) -> Coded
+) -> Result<u32, Refusal>
     requires { CompiledOrNoneCount tab.now n × (length xs.now ≤ 65536) × (length xs.now * n ≤ length work.old) }
     ensures { ((tables : List (List Structure)) → CompiledOrNone tables tab.now → length tables ≡ n
-        → Written tables (differences order xs.now) out.old result out.new)
+        → Written tables (differences order xs.now) out.old (coded_in result) out.new)
         × (length tab.now ≡ 0 → work.new ≡ work.old) }
 {
     let bits = stream_bits(tab, n, xs, order, work);
-    let refusal = found_refusal(bits, out.len());
-    if refusal != 0 {
-        return refused(refusal);
-    }
+    judge_found(bits, out.len())?;
     put_stream(tab, n, xs, order, work, bits, out);
-    answer_for(bits)
+    Ok(bits as u32)
 }
 
 // All of the lent work space is made zeros.
 pub fn clear(work: &mut [u8])
     ensures { work.new ≡ replicate (length work.old) 0 }
 {
-    let mut k = 0;
-    while k < work.len() {
-        work[k] = 0;
-        k += 1;
-    }
+    work.fill(0);
 }
 
 // The stream is written by the tables; where there are any, all of the work space is cleared.
@@ -276,41 +251,47 @@ fn encode_by(
     order: usize,
     work: &mut [u8],
     out: &mut [u8],
-) -> Coded
+) -> Result<u32, Refusal>
     requires { CompiledOrNoneCount tab.now n × (length xs.now ≤ 65536) × (length xs.now * n ≤ length work.old) }
     ensures { ((tables : List (List Structure)) → CompiledOrNone tables tab.now → length tables ≡ n
-        → Written tables (differences order xs.now) out.old result out.new)
+        → Written tables (differences order xs.now) out.old (coded_in result) out.new)
         × (work.new ≡ cleared_if (length tab.now) work.old) }
 {
     let answer = write_stream(tab, n, xs, order, work, out);
-    if tab.len() == 0 {
-        return answer;
+    if !tab.is_empty() {
+        work.fill(0);
     }
-    clear(work);
     answer
 }
 
 // 17: the count of samples and the order are asked right.
+#[tactic(auto, unfolding(crate::specs::Encoding::asked_right))]
 fn asked_right(count: usize, order: usize) -> bool
     ensures { result ≡ asked_right count order }
 {
-    if count < 1 {
-        return false;
+    (1..=wire::MOST_SAMPLES).contains(&count) && order <= 2
+}
+
+// Section 2's data, if there are any.
+#[tactic(auto, unfolding(crate::specs::Encoding::tables_given, crate::specs::Encoding::tables_given_right))]
+fn given(section2: &[u8]) -> Option<&[u8]>
+    ensures right { tables_given_right section2.now ≡ true → ForSome result (λ s. section2_right 0 s.now 0 ≡ true) }
+    ensures tables { tables_held 0 (option_copied result) ≡ tables_given section2.now }
+    ensures there { (if is_some result then room_numbers else 0) ≡ held_for (length section2.now) }
+{
+    if section2.is_empty() {
+        None
+    } else {
+        Some(section2)
     }
-    if wire::MOST_SAMPLES < count {
-        return false;
-    }
-    order <= 2
 }
 
 // 7: there is no Section 2, or its data are right.
+#[tactic(auto, unfolding(crate::specs::Encoding::tables_given_right))]
 pub fn given_right(section2: &[u8]) -> bool
     ensures { result ≡ tables_given_right section2.now }
 {
-    if section2.len() == 0 {
-        return true;
-    }
-    tables::section2_right(section2, 0, 0)
+    section2.is_empty() || tables::section2_right(section2, 0, 0)
 }
 
 // How many tables Section 2's data mean.
@@ -318,29 +299,23 @@ pub fn table_count(section2: &[u8]) -> usize
     requires { tables_given_right section2.now ≡ true }
     ensures { (result ≡ length (tables_given section2.now)) × (result ≤ 8) }
 {
-    if section2.len() == 0 {
+    let Some(s) = given(section2) else {
         return 0;
-    }
-    if tables::is_default(section2, 0) {
+    };
+    if tables::is_default(s, 0) {
         return 1;
     }
-    wire::number16(section2, 0)
+    wire::number16(s, 0)
 }
 
-// The first of 17, 7 and 11 for the work space that applies, or 0.
-fn asked_refusal(section2: &[u8], count: usize, order: usize, work: usize) -> u8
-    ensures { result ≡ asked_refusal section2.now count order work }
+// The first of 17, 7 and 11 for the work space that applies.
+#[tactic(auto, unfolding(crate::specs::Encoding::asked_refusal, crate::specs::Encoding::work_right, crate::specs::Encoding::asked_right))]
+fn judge_asked(section2: &[u8], count: usize, order: usize, work: usize) -> Result<(), Refusal>
+    ensures { refusal_in result ≡ asked_refusal section2.now count order work }
 {
-    if !asked_right(count, order) {
-        return 17;
-    }
-    if !given_right(section2) {
-        return 7;
-    }
-    if work < count * table_count(section2) {
-        return 11;
-    }
-    0
+    Refusal::Request.unless(asked_right(count, order))?;
+    Refusal::CodeTables.unless(given_right(section2))?;
+    Refusal::Room.unless(count * table_count(section2) <= work)
 }
 
 // Room of its own for the numbers of the code tables, all of them 0.
@@ -356,14 +331,40 @@ pub fn hold_tables(section2: &[u8], tab: &mut [u32]) -> usize
     ensures { (result ≤ room_numbers) × CompiledOrNone (tables_given section2.now) (take result tab.new)
         × (result ≡ held_for (length section2.now)) }
 {
-    if section2.len() == 0 {
+    if section2.is_empty() {
         return 0;
     }
     compiled::compile(section2, 0, 0, tab);
     compiled::ROOM
 }
 
-// A lead's samples become the shortest stream for their differences, at the front of the output.
+// Section 2's tables are taken apart into the room. Answered is the part of it that holds them: all of it, or nothing without Section 2.
+pub fn hold<'t>(section2: &[u8], room: &'t mut [u32; compiled::ROOM]) -> &'t [u32]
+    requires { tables_given_right section2.now ≡ true }
+    ensures tables { CompiledOrNone (tables_given section2.now) result.now }
+    ensures count { length result.now ≡ held_for (length section2.now) }
+{
+    compiled::hold(given(section2), 0, 0, room)
+}
+
+// A lead's samples become the shortest stream for their differences, at the front of the output. Answered is how many bits it has.
+fn encode(
+    section2: &[u8],
+    xs: &[i16],
+    order: usize,
+    work: &mut [u8],
+    out: &mut [u8],
+) -> Result<u32, Refusal>
+    ensures { LeadEncoding section2.now xs.now order work.old out.old
+        (coded_in result) work.new out.new }
+{
+    judge_asked(section2, xs.len(), order, work.len())?;
+    let mut room = compiled::room();
+    let tab = hold(section2, &mut room);
+    encode_by(tab, table_count(section2), xs, order, work, out)
+}
+
+// The same, answered as C reads it.
 pub fn encode_lead(
     section2: &[u8],
     xs: &[i16],
@@ -374,11 +375,5 @@ pub fn encode_lead(
     ensures { LeadEncoding section2.now xs.now order work.old out.old
         result work.new out.new }
 {
-    let refusal = asked_refusal(section2, xs.len(), order, work.len());
-    if refusal != 0 {
-        return refused(refusal);
-    }
-    let mut tab = table_room();
-    let held = hold_tables(section2, &mut tab);
-    encode_by(&tab[..held], table_count(section2), xs, order, work, out)
+    Coded::from(encode(section2, xs, order, work, out))
 }

@@ -4,19 +4,20 @@ use mathlib.Core.Logic.{inr}
 use native.Mathlib.Omega.{arith}
 use Rattle.encode.specs.InnerEncode.{held_for}
 use Rattle.compiled.proofs.Laws.{ready_held}
+use Rattle.encode.proofs.Found.{no_elements, some_element}
 use Rattle.encode.proofs.Asked.{tables_none, given_some, tables_some, held_some}
 use Rattle.encode.proofs.hold_tables.Goals as goal
 
-pub returns-then-section2-eq0 : goal.returns-then-section2-eq0
-returns-then-section2-eq0 c = let s = c.args.section2.now in
-    (omega arith, inr (tables_none s c.if-section2-eq0.true, refl), sym (ap held_for c.if-section2-eq0.true))
+pub returns-then-is_empty : goal.returns-then-is_empty
+returns-then-is_empty c = let s = c.args.section2.now in
+    (omega arith, inr (tables_none s (no_elements c.is_empty.ensures c.if-is_empty.true), refl), sym (ap held_for (no_elements c.is_empty.ensures c.if-is_empty.true)))
 
 pub compile-requires : goal.compile-requires
 compile-requires c =
-    (c.requires.0, omega arith, sym (given_some c.args.section2.now c.if-section2-eq0.false) ∙ c.requires.1)
+    (c.requires.0, omega arith, sym (given_some c.args.section2.now (some_element c.is_empty.ensures c.if-is_empty.false)) ∙ c.requires.1)
 
 pub returns : goal.returns
 returns c = let s = c.args.section2.now in
-    let some = c.if-section2-eq0.false in
+    let some = (some_element c.is_empty.ensures c.if-is_empty.false) in
     let ready = c.compile.ensures in
     (omega arith, ready_held (tables_some s some) ready ready.room, held_some s some)

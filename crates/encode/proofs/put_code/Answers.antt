@@ -2,11 +2,9 @@
 use Prim.Native.Nat.{ℕ, ◌%◌}
 use mathlib.Core.Path.{◌≡◌, sym, ap, ◌∙◌, subst}
 use mathlib.Core.List.{List, ◌++◌, append_assoc}
-use native.Mathlib.Nat.{mod-lt}
 use native.Mathlib.Omega.{arith}
 use lib.IntN.{pos}
 use lib.ListN.{get_or, take}
-use lib.Pow.{pow_pos}
 use Rattle.bits.specs.Bits.{high_first, bits_in}
 use Rattle.samples.specs.Differences.{differences}
 use Rattle.packing.specs.InnerSink.{Holds}
@@ -22,27 +20,12 @@ held : (c : After-put-p) → let a = c.args in
     ((bits_in (take a.sink.at a.out.now) ++ high_first a.sink.part a.sink.acc) ++ high_first a.f.prefix a.f.word)
 held c =
     let a = c.args in
-    c.put-p.ensures.0 _ (holds_some a.out.now a.sink c.requires.part_bound.0 c.requires.part_bound.1 (omega (arith, c.requires.part_bound.2)))
+    c.put-p.ensures.0 _ (holds_some a.out.now a.sink (omega (arith, c.requires.room)))
 
 pub returns-then-f-eq0 : goal.returns-then-f-eq0
 returns-then-f-eq0 c = let p = c.put-p in
     let a = c.args in
     (λ bs h. rw (code_prefix a.f (get_or (differences a.order a.xs.now) a.i (pos 0)) c.if-f-eq0.true) (p.ensures.0 bs h), p.ensures.1, p.ensures.2)
-
-pub nonzero_rem-v : goal.nonzero_rem-v
-nonzero_rem-v c = rw c.power.ensures (pow_pos c.args.f.remainder)
-
-pub put-requires : goal.put-requires
-put-requires c =
-    let p = c.put-p in
-    let f = c.args.f in
-    let h = held (goal.at.put-requires c).After-put-p in (
-      omega arith,
-      rw c.power.ensures (mod-lt c.value_at-v.result (pow_pos f.remainder)),
-      h.part,
-      h.acc,
-      omega (arith, p.ensures.3, p.ensures.1),
-    )
 
 pub returns : goal.returns
 returns c =

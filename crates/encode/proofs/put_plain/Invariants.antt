@@ -1,14 +1,11 @@
 -- The bytes of the values before i are at the front.
-use Prim.Native.Nat.{◌-◌, ◌*◌, ◌≤◌}
+use Prim.Native.Nat.{◌*◌}
 use mathlib.Core.Path.{◌≡◌}
 use mathlib.Core.List.{◌++◌}
-use lib.ListN.{length, take, drop}
+use lib.ListN.{take, drop}
 use Rattle.samples.specs.Differences.{differences}
 use Rattle.shortest.specs.InnerRule.{plain_bytes}
 use Rattle.encode.proofs.put_plain.Given as goal
 
 abbrev pub invariant-loop-i : goal.invariant-loop-i
-invariant-loop-i l = (l.i ≤ length l.xs) × (length l.out ≡ length l.initial.out) × (l.out ≡ plain_bytes (take l.i (differences l.order l.xs)) ++ drop (l.i * 2) l.initial.out)
-
-abbrev pub decreases-loop-i : goal.decreases-loop-i
-decreases-loop-i l = length l.xs - l.i
+invariant-loop-i l = l.out ≡ plain_bytes (take l.i (differences l.order l.xs)) ++ drop (l.i * 2) l.initial.out

@@ -1,5 +1,4 @@
 use Prim.Native.Nat.{◌+◌, ◌-◌, ◌*◌, ◌≤◌, ◌<◌}
-use mathlib.Core.Path.{◌∙◌}
 use native.Mathlib.Omega.{arith}
 use lib.ListN.{length}
 use Rattle.compiled.proofs.Laws.{FineForm}
@@ -44,27 +43,14 @@ most c =
     let f = c.form_at-f in
     next_most c.requires.compiled_count.0 l.invariant.0 c.requires.planned c.requires.compiled_count.2 (omega arith) f.result f.ensures
 
-pub loop-left-init : goal.loop-left-init
-loop-left-init c = (c.requires.part_written_by.0, omega arith)
-
 pub overflow_mul-k : goal.overflow_mul-k
 overflow_mul-k c = omega (arith, room c)
-
-pub overflow_sub-k : goal.overflow_sub-k
-overflow_sub-k c = (table c).0
 
 pub overflow_add-k : goal.overflow_add-k
 overflow_add-k c = omega (arith, room c)
 
 pub bounds-work-i : goal.bounds-work-i
 bounds-work-i c = room (goal.at.bounds-work-i c).In-loop-left
-
-pub overflow_cast-k : goal.overflow_cast-k
-overflow_cast-k c = let a = c.args in
-    omega (arith, c.type_inv.work (c.loop-left.i * a.n + (a.from.t - 1)))
-
-pub overflow_sub-t : goal.overflow_sub-t
-overflow_sub-t c = (table (goal.at.overflow_sub-t c).In-loop-left).0
 
 pub form_at-f-requires : goal.form_at-f-requires
 form_at-f-requires c =
@@ -76,17 +62,13 @@ pub put_code-sink-requires : goal.put_code-sink-requires
 put_code-sink-requires c =
     let l = c.loop-left in
     let f = fine (goal.at.put_code-sink-requires c).After-form_at-f in
-    let k = next_sink c.requires.compiled_count.0 l.invariant.0 in record { prefix_bound = (f.most, f.rest, f.word, sample (goal.at.put_code-sink-requires c).In-loop-left); part_bound = (k.0, k.1, omega (arith, k.2, most (goal.at.put_code-sink-requires c).After-form_at-f, c.requires.compiled_count.3, l.invariant.0.same)) }
+    let k = next_sink c.requires.compiled_count.0 l.invariant.0 in record { prefix_bound = (f.most, f.rest, f.word, sample (goal.at.put_code-sink-requires c).In-loop-left); room = omega (arith, k, most (goal.at.put_code-sink-requires c).After-form_at-f, c.requires.compiled_count.3, l.invariant.0.same) }
 
 pub overflow_add-left : goal.overflow_add-left
 overflow_add-left c = let f = fine (goal.at.overflow_add-left c).After-form_at-f in omega (arith, f.most, f.rest)
 
 pub overflow_sub-left : goal.overflow_sub-left
 overflow_sub-left c = most (goal.at.overflow_sub-left c).After-form_at-f
-
--- the code is put, and the structure gives a value or leads on
-pub shape_of-out-then-f-ne0 : goal.shape_of-out-then-f-ne0
-shape_of-out-then-f-ne0 c = c.put_code-sink.ensures.1 ∙ c.loop-left.invariant.0.same
 
 pub returns-then-f-ne0 : goal.returns-then-f-ne0
 returns-then-f-ne0 c = let f = c.form_at-f in
@@ -110,9 +92,3 @@ loop-left-preserved c = let f = c.form_at-f in
           q.new.out q.result q.ensures.0 q.ensures.1 q.ensures.2 c.if-f-ne0.false,
       omega (arith, c.loop-left.invariant.1),
     )
-
-pub shape_of-out : goal.shape_of-out
-shape_of-out c = c.loop-left.invariant.0.same
-
-pub returns : goal.returns
-returns c = (c.loop-left.invariant.0, omega (arith, c.requires.part_written_by.1))
