@@ -8,13 +8,17 @@ use lib.Dec.{leb}
 use lib.ListN.{length, get_or, take, drop, set, length-append, length-take, length-drop, take-append-drop, get_or-append}
 use lib.Seq.{take-suc, get_or-take, set_at, length-take-le, drop-cons, take-append-le, take-take, drop_at}
 use borrow.Rule.Slice.PartMut.{put_mid, post_of, Post-is}
-use borrow.Author.Tests.{leb-true, eqb-true, eqb-false}
+use borrow.Author.Tests.{leb-true, eq-eqb, eqb-true, eqb-false}
 use Rattle.wire.specs.Numbers.{part}
 use Rattle.wire.proofs.Laws.{kept_first}
 use Rattle.record.specs.Opening.{open_refusal, opens}
 use Rattle.index.specs.Entry.{entry_size, date_right}
 use Rattle.index.specs.Index.{is_index, index_right}
-use Rattle.fields.specs.Recording.{month_of, day_of}
+use Rattle.fields.specs.Recording.{identifier_of}
+use Rattle.fields.proofs.Recording.{identified}
+use Rattle.packing.specs.declared.Sink.{Sink}
+use Rattle.packing.specs.InnerSink.{Holds, bits_put}
+use Rattle.packing.proofs.Sinks.{holds_length}
 use Rattle.filing.specs.Filing.{section3_kept, entry_of, date_kept, room_right, add_refusal}
 
 -- of a right index no more is in use than was lent
@@ -62,15 +66,21 @@ pub opened_none : (r : List ℕ) → opens r ≡ true → open_refusal r ≡ 0
 unfolding opens
 opened_none r h = eqb-true (open_refusal r) 0 h
 
--- a right date has room in its bits
-pub date_room : (r : List ℕ) → date_kept r ≡ true → (month_of r < 16) × (day_of r < 32)
-unfolding date_kept date_right
-date_room r h =
-    let a = (and-eq-true_iff (leb 1 (month_of r)) _).0 h in
-    let b = (and-eq-true_iff (leb (month_of r) 12) _).0 a.1 in
-    let c = (and-eq-true_iff (leb 1 (day_of r)) _).0 b.1 in
-    let m = leb-true (month_of r) 12 b.0 in
-    let d = leb-true (day_of r) 31 c.1 in
+-- the identifier of an opened record has room in its bits
+pub identifier_room : (r : List ℕ) → open_refusal r ≡ 0 → length (identifier_of r) < 64
+unfolding opens
+identifier_room r h = let k = identified r (eq-eqb (open_refusal r) 0 h) in omega (arith, k.most)
+
+-- and so has a date that is not refused
+pub date_room : (month day : ℕ) (right : Bool) → ◌≡◌ {A = ℕ} 0 (cond right 0 24) → right ≡ date_right month day → (month < 16) × (day < 32)
+unfolding date_right
+date_room month day false h e = absurd (omega arith)
+date_room month day true h e =
+    let a = (and-eq-true_iff (leb 1 month) _).0 (sym e) in
+    let b = (and-eq-true_iff (leb month 12) _).0 a.1 in
+    let c = (and-eq-true_iff (leb 1 day) _).0 b.1 in
+    let m = leb-true month 12 b.0 in
+    let d = leb-true day 31 c.1 in
     (omega arith, omega arith)
 
 -- ---- bytes moved on
@@ -119,3 +129,9 @@ put_between l zs at used size h g =
     let later : post_of at (at + size - at) (moved_on l at used size) ≡ rest =
     Post-is at (at + size) (moved_on l at used size) (omega arith) ∙ drop_at front rest (at + size) long in
     rw (first, later)
+
+-- nothing is put yet
+pub none_put : (s : Sink) → ((out : List ℕ) → Holds out s []) → bits_put s ≡ 0
+none_put s h = sym (holds_length [] s [] (h []))
+
+pub ruleset adding = (index_used)

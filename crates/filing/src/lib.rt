@@ -2,18 +2,23 @@
 // 24 and 11).
 #![tactic(auto)]
 
-ghost use Rattle.std.specs.Prelude.{◌≡◌, ◌++◌, ◌+◌, ◌<◌, ◌≤◌, length, take, drop};
+ghost use Rattle.std.specs.Prelude.{◌≡◌, true, ◌++◌, ◌+◌, ◌<◌, ◌≤◌, length, take, drop, IfOk};
+ghost use Rattle.refusals.specs.Refusals.{refusal_in};
 ghost use Rattle.wire.specs.Numbers.{part};
-ghost use Rattle.record.specs.Opening.{open_refusal};
 ghost use Rattle.packing.specs.Packing.{packed};
 ghost use Rattle.index.specs.Entry.{head_bits, entry_bytes, entry_size};
-ghost use Rattle.index.specs.Index.{entries_in, up_to};
+ghost use Rattle.index.specs.Index.{entries_in, index_right, up_to};
 ghost use Rattle.index.specs.InnerSteps.{Whole, Passed};
-ghost use Rattle.filing.specs.Filing.{section3_kept, leads_of, entry_of, date_kept, add_refusal, add_answer, place_for, put_in, index_after};
-ghost use Rattle.filing.specs.InnerFiling.{filed, date_on};
+ghost use Rattle.filing.specs.Filing.{section3_kept, leads_of, entry_of, add_refusal, add_answer, place_for, put_in, index_after};
+ghost use Rattle.filing.specs.InnerFiling.{filed, filed_as, date_on, indexed};
 
+mod entry;
+
+use entry::Filed;
 use index::Date;
 use packing::Sink;
+use record::Opened;
+use refusals::Refusal;
 
 // The answer: the refusal, or 0 and how many bytes of the index are in use now.
 #[repr(C)]
@@ -23,30 +28,52 @@ pub struct Indexed {
     pub used: usize,
 }
 
+impl From<Result<usize, Refusal>> for Indexed {
+    ghost from_gives = { λ r w. w ≡ indexed r };
+
+    fn from(answer: Result<usize, Refusal>) -> Indexed {
+        match answer {
+            Ok(used) => Indexed { refusal: 0, used },
+            Err(refusal) => Indexed {
+                refusal: refusal.number(),
+                used: 0,
+            },
+        }
+    }
+}
+
+impl<'a> Filed<'a> {
+    // How many bytes the entry has.
+    fn size(self) -> usize
+        ensures { result ≡ entry_size (filed_as self.entry) }
+    {
+        index::HEAD_SIZE + self.identifier.len()
+    }
+}
+
 // 8: Section 3 is absent or keeps its rule.
+#[tactic(auto, unfolding(crate::specs::Filing::section3_kept))]
 fn section3_kept(rec: &[u8]) -> bool
     ensures { result ≡ section3_kept rec.now }
 {
-    if !pointers::is_present(rec, 3) {
-        return true;
-    }
-    entries::section3_right(pointers::section_of(rec, 3))
+    !pointers::is_present(rec, 3) || entries::section3_right(pointers::section_of(rec, 3))
 }
 
 // How many leads Section 3 says, and 0 without it.
-fn leads_of(rec: &[u8]) -> usize
-    ensures { (result ≡ leads_of rec.now) × (result < 256) }
+#[tactic(auto, unfolding(crate::specs::Filing::leads_of))]
+fn leads_of(rec: &[u8]) -> u8
+    ensures { result ≡ leads_of rec.now }
 {
-    if !pointers::is_present(rec, 3) {
-        return 0;
+    if pointers::is_present(rec, 3) {
+        entries::lead_count(pointers::section_of(rec, 3))
+    } else {
+        0
     }
-    entries::lead_count(pointers::section_of(rec, 3))
 }
 
-// The day of the recording, of a record that opens.
-fn date_of(rec: &[u8]) -> Date
-    requires { open_refusal rec.now ≡ 0 }
-    ensures { result ≡ date_on rec.now }
+// The day of the recording.
+fn date_of(rec: Opened) -> Date
+    ensures { result ≡ date_on rec.entry.bytes.now }
 {
     let date = fields::field_of(rec, 25);
     Date {
@@ -56,114 +83,97 @@ fn date_of(rec: &[u8]) -> Date
     }
 }
 
-// 24: the day of the recording is one that there can be.
-fn date_kept(rec: &[u8]) -> bool
-    requires { open_refusal rec.now ≡ 0 }
-    ensures { result ≡ date_kept rec.now }
+// The record's entry, or the first refusal that applies.
+#[tactic(auto, using(crate::proofs::Laws::adding), unfolding(crate::specs::Filing::add_refusal, crate::specs::Filing::date_kept, crate::specs::Filing::room_right, crate::specs::Filing::entry_of, record::specs::Opening::opens))]
+fn judge_adding<'a>(lent: &[u8], used: usize, rec: &'a [u8]) -> Result<Filed<'a>, Refusal>
+    ensures refusal { refusal_in result ≡ add_refusal lent.now used rec.now }
+    ensures entry { IfOk result (λ entry. filed_as entry ≡ entry_of rec.now) }
 {
-    let date = date_of(rec);
-    index::date_right(date.month as usize, date.day as usize)
-}
-
-// The first refusal that applies, or 0.
-fn add_refusal(lent: &[u8], used: usize, rec: &[u8]) -> u8
-    ensures { result ≡ add_refusal lent.now used rec.now }
-{
-    if !index::index_right(lent, used) {
-        return 26;
-    }
-    let refusal = record::refusal_of(rec);
-    if refusal != 0 {
-        return refusal;
-    }
-    if !section3_kept(rec) {
-        return 8;
-    }
-    if !date_kept(rec) {
-        return 24;
-    }
-    if lent.len() - used < entry_size(rec) {
-        return 11;
-    }
-    0
-}
-
-// How many bytes the entry of a record that opens has.
-fn entry_size(rec: &[u8]) -> usize
-    requires { open_refusal rec.now ≡ 0 }
-    ensures { result ≡ entry_size (entry_of rec.now) }
-{
-    index::HEAD_SIZE + fields::identifier_of(rec).len()
+    Refusal::Index.unless(index::index_right(lent, used))?;
+    let opened = Opened::new(rec)?;
+    Refusal::LeadSections.unless(section3_kept(rec))?;
+    let date = date_of(opened);
+    Refusal::Date.unless(index::date_right(usize::from(date.month), usize::from(date.day)))?;
+    let entry = Filed {
+        identifier: fields::identifier_of(opened),
+        date,
+        leads: leads_of(rec),
+    };
+    Refusal::Room.unless(entry.size() <= lent.len() - used)?;
+    Ok(entry)
 }
 
 // The place of an entry among those of an index from a place on: in front of the first that it comes before.
+#[tactic(auto, unfolding(index::specs::Order::before))]
 pub fn place_for(s: &[u8], from: usize, id: &[u8], date: Date) -> usize
     requires { Whole s.now from }
     ensures { Passed (up_to (filed id.now date 0)) s.now from result }
 {
-    let mut at = from;
-    while at < s.len() {
-        let e = index::entry_at(s, at);
-        let own = wire::part_of(s, e.start, e.next);
-        if index::is_before(id, date, own, index::date_of(e)) {
-            return at;
-        }
-        at = e.next;
-    }
-    at
+    index::behind(
+        s,
+        from,
+        |e| !index::is_before(id, date, index::identifier_of(s, e), index::date_of(e)),
+    )
 }
 
-// What is in use from a place on moves on by `size` bytes, the last byte first.
+// What is in use from a place on moves on by `size` bytes, the last byte first: std has no `copy_within`.
 fn move_on(lent: &mut [u8], at: usize, used: usize, size: usize)
     requires { (at ≤ used) × (used + size ≤ length lent.old) }
     ensures { lent.new ≡ take (at + size) lent.old
         ++ (part lent.old at used ++ drop (used + size) lent.old) }
 {
-    let mut i = used;
-    while at < i {
-        i -= 1;
+    for i in (at..used).rev() {
         lent[i + size] = lent[i];
     }
 }
 
 // The numbers of an entry in its first five bytes.
-fn put_head(out: &mut [u8], id: &[u8], date: Date, leads: usize)
-    requires { (5 ≤ length out.old) × (length id.now < 64) × (date.month < 16) × (date.day < 32) × (leads < 256) }
-    ensures { out.new ≡ packed (head_bits (filed id.now date leads)) ++ drop 5 out.old }
+#[tactic(auto, using(crate::proofs::Laws::none_put))]
+fn put_head(out: &mut [u8], entry: Filed)
+    requires { 5 ≤ length out.old }
+    ensures { out.new ≡ packed (head_bits (filed_as entry.entry)) ++ drop 5 out.old }
 {
-    let s = Sink::new().put(out, id.len(), 6);
-    let s = s.put(out, date.year as usize, 16);
-    let s = s.put(out, date.month as usize, 4);
-    let s = s.put(out, date.day as usize, 5);
-    let s = s.put(out, leads, 8);
+    let s = Sink::new().put(out, entry.identifier.len(), 6);
+    let s = s.put(out, usize::from(entry.date.year), 16);
+    let s = s.put(out, usize::from(entry.date.month), 4);
+    let s = s.put(out, usize::from(entry.date.day), 5);
+    let s = s.put(out, usize::from(entry.leads), 8);
     let s = s.put(out, 0, 1);
     s.end(out);
 }
 
 // An entry in its own part of the index.
-fn put_entry(out: &mut [u8], id: &[u8], date: Date, leads: usize)
-    requires { (length out.old ≡ 5 + length id.now) × (length id.now < 64) × (date.month < 16) × (date.day < 32) × (leads < 256) }
-    ensures { out.new ≡ entry_bytes (filed id.now date leads) }
+fn put_entry(out: &mut [u8], entry: Filed)
+    requires { length out.old ≡ entry_size (filed_as entry) }
+    ensures { out.new ≡ entry_bytes (filed_as entry.entry) }
 {
-    put_head(out, id, date, leads);
-    layout::put_bytes(out, index::HEAD_SIZE, id);
+    put_head(out, entry);
+    out[index::HEAD_SIZE..].copy_from_slice(entry.identifier);
 }
 
-// The record's entry is put in at its place.
-fn put_in(lent: &mut [u8], used: usize, rec: &[u8]) -> usize
-    requires { add_refusal lent.old used rec.now ≡ 0 }
-    ensures { (result ≡ used + entry_size (entry_of rec.now))
+// An entry is put in at its place.
+#[tactic(auto, using(index::proofs::Found::places))]
+fn put_in(lent: &mut [u8], used: usize, entry: Filed) -> usize
+    requires { (index_right lent.old used ≡ true) × (used + entry_size (filed_as entry) ≤ length lent.old) }
+    ensures { (result ≡ used + entry_size (filed_as entry.entry))
         × (lent.new ≡ put_in lent.old used
-        (place_for (entry_of rec.now) (entries_in (take used lent.old))) (entry_of rec.now)) }
+        (place_for (filed_as entry.entry) (entries_in (take used lent.old))) (filed_as entry.entry)) }
 {
-    let id = fields::identifier_of(rec);
-    let date = date_of(rec);
-    let size = index::HEAD_SIZE + id.len();
-    let at = place_for(wire::part_of(lent, 0, used), 0, id, date);
-    let end = at + size;
+    let size = entry.size();
+    let at = place_for(&lent[..used], 0, entry.identifier, entry.date);
     move_on(lent, at, used, size);
-    put_entry(&mut lent[at..end], id, date, leads_of(rec));
+    put_entry(&mut lent[at..at + size], entry);
     used + size
+}
+
+// A record's entry is put in, unless it is refused.
+#[tactic(auto, using(crate::proofs::Laws::all_kept_lem), unfolding(crate::specs::Filing::add_answer, crate::specs::Filing::index_after))]
+fn file(lent: &mut [u8], used: usize, rec: &[u8]) -> Result<usize, Refusal>
+    ensures answer { indexed result ≡ add_answer lent.old used rec.now }
+    ensures bytes { lent.new ≡ index_after lent.old used rec.now }
+{
+    let entry = judge_adding(lent, used, rec)?;
+    Ok(put_in(lent, used, entry))
 }
 
 // A record is added to the index.
@@ -171,12 +181,5 @@ pub fn add(lent: &mut [u8], used: usize, rec: &[u8]) -> Indexed
     ensures answer { result ≡ add_answer lent.old used rec.now }
     ensures bytes { lent.new ≡ index_after lent.old used rec.now }
 {
-    let refusal = add_refusal(lent, used, rec);
-    if refusal != 0 {
-        return Indexed { refusal, used: 0 };
-    }
-    Indexed {
-        refusal: 0,
-        used: put_in(lent, used, rec),
-    }
+    Indexed::from(file(lent, used, rec))
 }
