@@ -3,12 +3,15 @@
 
 ghost use Rattle.std.specs.Prelude.{◌≡◌, true, ◌++◌, ◌+◌, ◌≤◌, ◌<◌, length, take, drop};
 ghost use Rattle.wire.specs.Numbers.{part};
+ghost use Rattle.refusals.specs.Refusals.{refusal_in};
+ghost use Rattle.filing.specs.InnerFiling.{indexed};
 ghost use Rattle.index.specs.Index.{index_bytes, entries_in, is_index};
 ghost use Rattle.index.specs.InnerSteps.{Whole};
 ghost use Rattle.merging.specs.Merging.{merged, merge_refusal, merge_answer, merged_into};
 ghost use Rattle.merging.specs.InnerMerging.{Next};
 
 use filing::Indexed;
+use refusals::Refusal;
 
 // How far each index has been copied.
 #[derive(Clone, Copy)]
@@ -17,37 +20,27 @@ struct Reached {
     b: usize,
 }
 
-// The first refusal that applies, or 0.
-fn merge_refusal(a: &[u8], b: &[u8], room: usize) -> u8
-    ensures { result ≡ merge_refusal a.now b.now room }
+// The first refusal that applies.
+#[tactic(auto, unfolding(crate::specs::Merging::merge_refusal))]
+fn judge_merging(a: &[u8], b: &[u8], room: usize) -> Result<(), Refusal>
+    ensures { refusal_in result ≡ merge_refusal a.now b.now room }
 {
-    if !index::is_index(a) {
-        return 26;
-    }
-    if !index::is_index(b) {
-        return 26;
-    }
-    if room < a.len() {
-        return 11;
-    }
-    if room - a.len() < b.len() {
-        return 11;
-    }
-    0
+    Refusal::Index.unless(index::is_index(a))?;
+    Refusal::Index.unless(index::is_index(b))?;
+    Refusal::Room.unless(a.len() <= room && b.len() <= room - a.len())
 }
 
 // Copies the next entry of b, behind those of a that are not greater.
-fn copy_next(a: &[u8], i: usize, b: &[u8], j: usize, out: &mut [u8]) -> Reached
-    requires { (Whole a.now i) × (Whole b.now j) × (j < length b.now) × (length a.now + length b.now ≤ length out.old) }
-    ensures reached { Next a.now i b.now j result }
-    ensures bytes { out.new ≡ take (i + j) out.old
-        ++ (part a.now i result.a ++ (part b.now j result.b ++ drop (result.a + result.b) out.old)) }
+fn copy_next(a: &[u8], b: &[u8], from: Reached, out: &mut [u8]) -> Reached
+    requires { (Whole a.now from.a) × (Whole b.now from.b) × (from.b < length b.now) × (length a.now + length b.now ≤ length out.old) }
+    ensures reached { Next a.now from.a b.now from.b result }
+    ensures bytes { out.new ≡ take (from.a + from.b) out.old
+        ++ (part a.now from.a result.a ++ (part b.now from.b result.b ++ drop (result.a + result.b) out.old)) }
 {
-    let f = index::entry_at(b, j);
-    let id = wire::part_of(b, f.start, f.next);
-    let place = filing::place_for(a, i, id, index::date_of(f));
-    layout::put_bytes(out, i + j, wire::part_of(a, i, place));
-    layout::put_bytes(out, place + j, wire::part_of(b, j, f.next));
+    let f = index::entry_at(b, from.b);
+    let place = filing::place_for(a, from.a, index::identifier_of(b, f), index::date_of(f));
+    layout::put_bytes(out, from.a + from.b, wire::part_of(a, from.a, place));
+    layout::put_bytes(out, place + from.b, wire::part_of(b, from.b, f.next));
     Reached {
         a: place,
         b: f.next,
@@ -62,14 +55,26 @@ fn copy_all(a: &[u8], b: &[u8], out: &mut [u8])
 {
     wire::bytes_fit(a);
     wire::bytes_fit(b);
-    let mut i = 0;
-    let mut j = 0;
-    while j < b.len() {
-        let next = copy_next(a, i, b, j, out);
-        i = next.a;
-        j = next.b;
+    let mut reached = Reached { a: 0, b: 0 };
+    while reached.b < b.len() {
+        reached = copy_next(a, b, reached, out);
     }
-    layout::put_bytes(out, i + j, wire::part_of(a, i, a.len()));
+    layout::put_bytes(
+        out,
+        reached.a + reached.b,
+        wire::part_of(a, reached.a, a.len()),
+    );
+}
+
+// Both are copied, unless this is refused.
+#[tactic(auto, using(crate::proofs::Merged::all_kept_lem), unfolding(crate::specs::Merging::merge_answer, crate::specs::Merging::merged_into))]
+fn merge_into(a: &[u8], b: &[u8], out: &mut [u8]) -> Result<usize, Refusal>
+    ensures answer { indexed result ≡ merge_answer a.now b.now (length out.old) }
+    ensures bytes { out.new ≡ merged_into a.now b.now out.old }
+{
+    judge_merging(a, b, out.len())?;
+    copy_all(a, b, out);
+    Ok(a.len() + b.len())
 }
 
 // Two indexes are merged into the output.
@@ -77,13 +82,5 @@ pub fn merge(a: &[u8], b: &[u8], out: &mut [u8]) -> Indexed
     ensures answer { result ≡ merge_answer a.now b.now (length out.old) }
     ensures bytes { out.new ≡ merged_into a.now b.now out.old }
 {
-    let refusal = merge_refusal(a, b, out.len());
-    if refusal != 0 {
-        return Indexed { refusal, used: 0 };
-    }
-    copy_all(a, b, out);
-    Indexed {
-        refusal: 0,
-        used: a.len() + b.len(),
-    }
+    Indexed::from(merge_into(a, b, out))
 }

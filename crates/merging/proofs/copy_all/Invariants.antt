@@ -4,8 +4,8 @@ use lib.ListN.{length}
 use Rattle.merging.proofs.Copied.{Copied}
 use Rattle.merging.proofs.copy_all.Given as goal
 
-abbrev pub invariant-loop-j : goal.invariant-loop-j
-invariant-loop-j l = Copied l.a l.b l.initial.out l.out l.i l.j
+abbrev pub invariant-loop-reached : goal.invariant-loop-reached
+invariant-loop-reached l = Copied l.a l.b l.initial.out l.out l.reached.a l.reached.b
 
-abbrev pub decreases-loop-j : goal.decreases-loop-j
-decreases-loop-j l = length l.b - l.j
+abbrev pub decreases-loop-reached : goal.decreases-loop-reached
+decreases-loop-reached l = length l.b - l.reached.b

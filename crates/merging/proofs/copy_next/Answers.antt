@@ -1,15 +1,12 @@
 -- The entry is shown, its place in a is found, and both parts are copied one behind the other.
-use Prim.Native.Nat.{ℕ, ◌+◌, ◌-◌, ◌≤◌}
-use mathlib.Core.Path.{◌≡◌, ap, subst, ◌∙◌}
-use mathlib.Core.Bool.{not, ◌&&◌, ◌||◌}
-use mathlib.Core.List.{List}
+use Prim.Native.Nat.{◌+◌, ◌-◌, ◌≤◌}
+use mathlib.Core.Path.{◌≡◌, ap, ◌∙◌}
 use native.Mathlib.Omega.{arith}
 use lib.ListN.{length, length-append, length-drop}
 use lib.Seq.{length-take-le}
-use Rattle.fields.specs.Identifier.{same}
 use Rattle.wire.proofs.Places.{part_length}
-use Rattle.index.specs.Order.{less, date_of, before}
-use Rattle.index.specs.InnerSteps.{seen, Passed}
+use Rattle.index.specs.Order.{before}
+use Rattle.index.specs.InnerSteps.{seen}
 use Rattle.index.proofs.Walk.{Shown, shown_at_lem, whole_entry}
 use Rattle.merging.specs.InnerMerging.{Next}
 use Rattle.merging.proofs.Copied.{put_two}
@@ -20,22 +17,19 @@ pub entry_at-f-requires : goal.entry_at-f-requires
 entry_at-f-requires c = let p = c.requires in whole_entry _ _ p.1 p.2
 
 -- the entry that is there
-there : (c : After-entry_at-f) → Shown c.args.b.now c.args.j c.entry_at-f.result
+there : (c : After-entry_at-f) → Shown c.args.b.now c.args.from.b c.entry_at-f.result
 there c = shown_at_lem _ _ _ c.entry_at-f.ensures (let p = c.requires in whole_entry _ _ p.1 p.2)
 
 -- both places afterwards
 reached : (c : After-place_for-place) → let a = c.args in
-    Shown a.b.now a.j c.entry_at-f.result → Next a.a.now a.i a.b.now a.j (record { a = c.place_for-place.result; b = c.entry_at-f.result.next })
+    Shown a.b.now a.from.b c.entry_at-f.result → Next a.a.now a.from.a a.b.now a.from.b (record { a = c.place_for-place.result; b = c.entry_at-f.result.next })
 unfolding before
 reached c w =
     let a = c.args in
     let f = seen a.b.now c.entry_at-f.result in
-    let Behind : List ℕ → List ℕ → Type 0 =
-    λ id day. Passed (λ x. not (less id x.identifier || (same id x.identifier && less day (date_of x)))) a.a.now a.i c.place_for-place.result in
     record {
       entry = f;
-      passed = subst (λ (id : List ℕ). Behind id (date_of f)) c.part_of-id.ensures
-          (subst (λ (day : List ℕ). Behind c.part_of-id.result.now day) c.date_of.ensures c.place_for-place.ensures);
+      passed = rw (c.identifier_of.ensures, c.date_of.ensures) at c.place_for-place.ensures;
       entries = w.entries;
       size = w.size;
       within = w.within;
@@ -43,8 +37,8 @@ reached c w =
 
 -- the first part ends at the place in a, and both have room
 first_part : (c : After-part_of) → let a = c.args in
-    Next a.a.now a.i a.b.now a.j (record { a = c.place_for-place.result; b = c.entry_at-f.result.next })
-    → (length c.part_of.result.now ≡ c.place_for-place.result - a.i) × (a.i ≤ c.place_for-place.result)
+    Next a.a.now a.from.a a.b.now a.from.b (record { a = c.place_for-place.result; b = c.entry_at-f.result.next })
+    → (length c.part_of.result.now ≡ c.place_for-place.result - a.from.a) × (a.from.a ≤ c.place_for-place.result)
 first_part c n =
     let k = n.passed in
     (ap length c.part_of.ensures ∙ part_length _ _ _ k.within, omega (arith, k.place))
@@ -57,16 +51,16 @@ put_bytes-requires c = let p = c.requires in
 
 -- the output stays as long as it was
 long : (c : After-put_bytes) → let a = c.args in
-    a.i + a.j + length c.part_of.result.now ≤ length a.out.now → length c.put_bytes.new.part ≡ length c.args.out.now
+    a.from.a + a.from.b + length c.part_of.result.now ≤ length a.out.now → length c.put_bytes.new.part ≡ length c.args.out.now
 long c fits =
     let a = c.args in
     ap length c.put_bytes.ensures
-    ∙ rw (length-append, length-append, length-take-le (a.i + a.j) a.out.now (omega (arith, fits)), length-drop) (omega (arith, fits))
+    ∙ rw (length-append, length-append, length-take-le (a.from.a + a.from.b) a.out.now (omega (arith, fits)), length-drop) (omega (arith, fits))
 
 -- and the second part is the entry
 second_part : (c : After-part_of-2) → let a = c.args in
-    Next a.a.now a.i a.b.now a.j (record { a = c.place_for-place.result; b = c.entry_at-f.result.next })
-    → length c.part_of-2.result.now ≡ c.entry_at-f.result.next - c.args.j
+    Next a.a.now a.from.a a.b.now a.from.b (record { a = c.place_for-place.result; b = c.entry_at-f.result.next })
+    → length c.part_of-2.result.now ≡ c.entry_at-f.result.next - c.args.from.b
 second_part c n = ap length c.part_of-2.ensures ∙ part_length _ _ _ n.within
 
 pub put_bytes-requires-2 : goal.put_bytes-requires-2
@@ -75,7 +69,7 @@ put_bytes-requires-2 c =
     let p = c.requires in
     let n = reached places.After-place_for-place (there places.After-entry_at-f) in
     let k = first_part places.After-part_of n in
-    let fits : c.args.i + c.args.j + length c.part_of.result.now ≤ length c.args.out.now = omega (arith, k.0, k.1, n.passed.within, p.2, p.3) in
+    let fits : c.args.from.a + c.args.from.b + length c.part_of.result.now ≤ length c.args.out.now = omega (arith, k.0, k.1, n.passed.within, p.2, p.3) in
     omega (arith, second_part places.After-part_of-2 n, n.size, n.within, n.passed.within, p.3, long places.After-put_bytes fits)
 
 pub returns : goal.returns
@@ -86,9 +80,9 @@ returns c =
     let p = c.part_of.result.now in
     let q = c.part_of-2.result.now in
     let k = first_part places.After-part_of n in
-    let first : c.place_for-place.result + a.j ≡ a.i + a.j + length p = omega (arith, k.0, k.1) in
-    let end : c.place_for-place.result + c.entry_at-f.result.next ≡ a.i + a.j + length p + length q =
+    let first : c.place_for-place.result + a.from.b ≡ a.from.a + a.from.b + length p = omega (arith, k.0, k.1) in
+    let end : c.place_for-place.result + c.entry_at-f.result.next ≡ a.from.a + a.from.b + length p + length q =
     omega (arith, k.0, k.1, second_part places.After-part_of-2 n, n.size) in
     let u = c.requires in
-    let fits : a.i + a.j + length p ≤ length a.out.now = omega (arith, k.0, k.1, n.passed.within, u.2, u.3) in
-    record { reached = n; bytes = c.put_bytes-2.ensures ∙ rw (first, c.put_bytes.ensures, end, ← c.part_of.ensures, ← c.part_of-2.ensures) (put_two a.out.now p q (a.i + a.j) fits) }
+    let fits : a.from.a + a.from.b + length p ≤ length a.out.now = omega (arith, k.0, k.1, n.passed.within, u.2, u.3) in
+    record { reached = n; bytes = c.put_bytes-2.ensures ∙ rw (first, c.put_bytes.ensures, end, ← c.part_of.ensures, ← c.part_of-2.ensures) (put_two a.out.now p q (a.from.a + a.from.b) fits) }
