@@ -1,8 +1,8 @@
 -- An index built afresh from records, and records added one after another (02, Q-13).
-use Rattle.std.specs.Prelude.{ℕ, ◌≤◌, ◌≡◌, Bool, true, not, ◌&&◌, List, [], ◌∷◌, ◌++◌, map, length, take, drop}
+use Rattle.std.specs.Prelude.{ℕ, ◌≤◌, ◌≡◌, Bool, true, not, ◌&&◌, List, [], ◌∷◌, ◌++◌, map, length, take, drop, Result}
 use Rattle.wire.specs.RuleWords.{every, are_bytes}
 use Rattle.record.specs.Opening.{opens}
-use Rattle.fields.specs.declared.Place.{Place}
+use Rattle.fields.specs.declared.Part.{Part}
 use Rattle.fields.specs.Lookup.{part_bytes}
 use Rattle.index.specs.Entry.{Entry, year_fits, entry_right}
 use Rattle.index.specs.Order.{in_order}
@@ -57,7 +57,7 @@ pub record Stored (rs : List (List ℕ)) (lent after : List ℕ) (end : ℕ) : T
 
 -- a place in the index s holds all and only the entries of an identifier: entries stand in front of it, in it and behind it, and these are all
 -- that the index has; every one in it is of the identifier, and none outside of it is
-pub record AllAndOnly (id s : List ℕ) (place : Place) : Type 0 where
+pub record AllAndOnly (id s : List ℕ) (place : Result Part ℕ) : Type 0 where
   pub ahead : List Entry
   pub inside : List Entry
   pub rest : List Entry
