@@ -113,22 +113,7 @@ impl<'a> Stored<'a> {
         rebuilt
     }
 
-    // Rebuilt in the room, and copied to the output if nothing was refused.
-    fn lead_out(self, room: &mut [i16], out: &mut [i16], work: &mut [i16]) -> Result<usize, Refusal>
-        requires held { CompiledOrNone (tables_of self.rec.now) self.tab.now }
-        requires room_len { (length room.old ≡ sample_count_at self.rec.now self.k) × (sample_count_at self.rec.now self.k ≤ length out.old) }
-        requires beat_room { beat_subtracted self.rec.now ≡ true → beat_sample_count self.rec.now ≤ length work.old }
-        ensures traced { (xs : List ℤ) × (trace_of (refusal_in result) xs ≡ trace_at self.entry.rec.now self.entry.k) }
-        ensures samples { out.new ≡ out_after (trace_at self.entry.rec.now self.entry.k) out.old }
-        ensures cleared { work.new ≡ cleared_if (beat_subtracted self.entry.rec.now) work.old }
-        ensures summed { Summed (compared_at self.entry.rec.now self.entry.k) (2 * most_sum) result }
-    {
-        let compared = self.lead_into(room, work)?;
-        out[..room.len()].copy_from_slice(room);
-        Ok(compared)
-    }
-
-    // The same, in room of its own for N samples.
+    // Rebuilt in room of its own for N samples, and copied to the output if nothing was refused.
     fn read_in<const N: usize>(self, out: &mut [i16], work: &mut [i16]) -> Result<usize, Refusal>
         requires held { CompiledOrNone (tables_of self.rec.now) self.tab.now }
         requires room_len { (N ≤ 65536) × (sample_count_at self.rec.now self.k ≤ N) × (sample_count_at self.rec.now self.k ≤ length out.old) }
@@ -140,7 +125,9 @@ impl<'a> Stored<'a> {
     {
         let n = entries::sample_count(pointers::section_of(self.rec, 3), self.k);
         let mut room = room::<N>();
-        self.lead_out(&mut room[..n], out, work)
+        let compared = self.lead_into(&mut room[..n], work)?;
+        out[..n].copy_from_slice(&room[..n]);
+        Ok(compared)
     }
 }
 
