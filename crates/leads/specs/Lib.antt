@@ -2,3 +2,4 @@ pub mod LeadTrace
 pub mod LeadCompared
 pub mod LeadAnswers
 pub mod InnerLead
+pub mod InnerHeld

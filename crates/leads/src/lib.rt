@@ -11,6 +11,7 @@ ghost use Rattle.samples.specs.Trace.{rebuilt, fault};
 ghost use Rattle.samples.specs.InnerTrace.{trace_of};
 ghost use Rattle.leads.specs.LeadTrace.{tables_of, sample_count_at, stream_trace, trace_at, room_right, read_refusal, read_trace};
 ghost use Rattle.leads.specs.LeadCompared.{stream_compared, compared_at};
+ghost use Rattle.leads.specs.InnerHeld.{held_prop};
 ghost use Rattle.leads.specs.InnerLead.{Readable, cleared_if, most_sum, Summed};
 ghost use Rattle.leads.specs.LeadAnswers.{lead_of, lead_answer, out_after, work_after, entry_of, entry_answer};
 
@@ -60,17 +61,15 @@ struct Stored<'a> {
     rec: &'a [u8],
     tab: &'a [u32],
     k: u8,
-    ghost place: { k < lead_count_of rec.now },
-    ghost few: { lead_count_of rec.now ≤ 32 },
     ghost count: { sample_count_at rec.now k ≤ 65536 },
     ghost beat: { beat_right rec.now ≡ true },
+    ghost held: { CompiledOrNone (tables_of rec.now) tab.now } by { held_prop (tables_of rec.now) tab.now },
 }
 
 impl<'a> Stored<'a> {
     // Its stream in Section 5 or 6 is rebuilt into the room.
     #[tactic(auto, unfolding(crate::specs::LeadTrace::stream_trace, crate::specs::LeadCompared::stream_compared))]
     fn stream_into(self, section: u8, room: &mut [i16]) -> Result<usize, Refusal>
-        requires { CompiledOrNone (tables_of self.rec.now) self.tab.now }
         ensures traced { (trace_of (refusal_in result) room.new ≡ stream_trace self.entry.rec.now section (length room.old) self.entry.k)
             × (length room.new ≡ length room.old) }
         ensures summed { Summed (stream_compared self.entry.rec.now section (length room.old) self.entry.k) most_sum result }
@@ -82,7 +81,6 @@ impl<'a> Stored<'a> {
 
     // The beat is rebuilt, then the residual in the room, and the beat is added to it.
     fn with_beat(self, room: &mut [i16], beat: &mut [i16]) -> Result<usize, Refusal>
-        requires held { CompiledOrNone (tables_of self.rec.now) self.tab.now }
         requires subtracted { beat_subtracted self.rec.now ≡ true }
         requires room_len { (length room.old ≡ sample_count_at self.rec.now self.k) × (length beat.old ≡ beat_sample_count self.rec.now) }
         ensures traced { (trace_of (refusal_in result) room.new ≡ trace_at self.entry.rec.now self.entry.k) × (length room.new ≡ length room.old) }
@@ -97,7 +95,6 @@ impl<'a> Stored<'a> {
 
     // Rebuilt in the room. Where a beat was subtracted it is rebuilt in the work space, all of which is then cleared.
     fn lead_into(self, room: &mut [i16], work: &mut [i16]) -> Result<usize, Refusal>
-        requires held { CompiledOrNone (tables_of self.rec.now) self.tab.now }
         requires room_len { length room.old ≡ sample_count_at self.rec.now self.k }
         requires beat_room { beat_subtracted self.rec.now ≡ true → beat_sample_count self.rec.now ≤ length work.old }
         ensures traced { (trace_of (refusal_in result) room.new ≡ trace_at self.entry.rec.now self.entry.k) × (length room.new ≡ length room.old) }
@@ -115,7 +112,6 @@ impl<'a> Stored<'a> {
 
     // Rebuilt in room of its own for N samples, and copied to the output if nothing was refused.
     fn read_in<const N: usize>(self, out: &mut [i16], work: &mut [i16]) -> Result<usize, Refusal>
-        requires held { CompiledOrNone (tables_of self.rec.now) self.tab.now }
         requires room_len { (N ≤ 65536) × (sample_count_at self.rec.now self.k ≤ N) × (sample_count_at self.rec.now self.k ≤ length out.old) }
         requires beat_room { beat_subtracted self.rec.now ≡ true → beat_sample_count self.rec.now ≤ length work.old }
         ensures traced { (xs : List ℤ) × (trace_of (refusal_in result) xs ≡ trace_at self.entry.rec.now self.entry.k) }
