@@ -285,10 +285,10 @@ fn write_by(job: &Job, work: &mut [u8], out: &mut [u8]) -> Result<u32, Refusal>
     ensures { Streamed (lent job.now) out.old result out.new
         × (work.new ≡ work_searched job.now.section2.now work.old) }
 {
-    let mut tab = encode::table_room();
-    let held = encode::hold_tables(job.section2, &mut tab);
-    let answer = write_found(job, &tab[..held], work, out);
-    if held != 0 {
+    let mut room = compiled::room();
+    let tab = encode::hold(job.section2, &mut room);
+    let answer = write_found(job, tab, work, out);
+    if !tab.is_empty() {
         work.fill(0);
     }
     answer
