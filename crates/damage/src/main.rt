@@ -6,9 +6,10 @@
 
 ghost use Rattle.std.specs.Prelude.{◌≤◌, length};
 
-use fields::Place;
+use fields::Part;
 use filing::Indexed;
 use leads::Lead;
+use refusals::Refusal;
 use std::fs::File;
 use std::io::Read;
 use std::{env, io};
@@ -18,43 +19,32 @@ fn room() -> [i16; 40] {
     [0; 40]
 }
 
-// A sample, behind a blank.
-fn put_sample(rt: &HostRuntime, x: i16) -> io::Result<()> {
-    let y = samples::raised(x);
-    if y < 32768 {
-        print!(rt; " -{}", 32768 - y)
-    } else {
-        print!(rt; " {}", y - 32768)
-    }
-}
-
 fn put_samples(rt: &HostRuntime, xs: &[i16], n: usize) -> io::Result<()> {
     for x in xs.iter().take(n) {
-        put_sample(rt, *x)?;
+        print!(rt; " {x}")?;
     }
     println!(rt;)
 }
 
+// The refusal that an answer for C has as a number.
 fn put_refusal(rt: &HostRuntime, number: u8) -> io::Result<()> {
     println!(rt; "refused, {number}")
 }
 
 fn show_opening(rt: &HostRuntime, rec: &[u8]) -> io::Result<()> {
     let mut numbers = [0u32; 192];
-    let opened = record::open(rec, &mut numbers);
     print!(rt; "  open: ")?;
-    if opened.refusal != 0 {
-        put_refusal(rt, opened.refusal)
-    } else {
-        println!(rt; "{} pointers", opened.count)
+    match record::open(rec, &mut numbers) {
+        Ok(count) => println!(rt; "{count} pointers"),
+        Err(refusal) => println!(rt; "{refusal}"),
     }
 }
 
-// A place, as how many bytes stand where.
-fn put_place(rt: &HostRuntime, place: Place) -> io::Result<()> {
+// A part, as how many bytes stand where.
+fn put_place(rt: &HostRuntime, place: Result<Part, Refusal>) -> io::Result<()> {
     match place {
-        Place::At(start, size) => println!(rt; "{size} bytes at {start}"),
-        Place::Refused(number) => put_refusal(rt, number),
+        Ok(part) => println!(rt; "{} bytes at {}", part.size, part.start),
+        Err(refusal) => println!(rt; "{refusal}"),
     }
 }
 
