@@ -145,18 +145,6 @@ says_same cs x y t most s same = record {
   form = λ k h. form_same x y t k (λ i p q. same i (omega arith) (omega arith)) ∙ s.form k h;
 }
 
--- a table with the count 0 has no structure
-says_none : (tab : List ℕ) (t : ℕ) → get_or tab (t * 385) 0 ≡ 0 → Says [] tab t
-says_none tab t e = record { count = e; form = λ k h. absurd (omega arith) }
-
--- from n on the tables below t have no structure, and one more gets none
-pub none_turn : (tab : List ℕ) (n t : ℕ) → length tab ≡ 5128 → t < 8 → ((u : ℕ) → u < t → n ≤ u → Says [] tab u)
-    → (u : ℕ) → u < t + 1 → n ≤ u → Says [] (set tab (t * 385) 0) u
-none_turn tab n t room h before =
-    below_more (λ (u : ℕ). n ≤ u → Says [] (set tab (t * 385) 0) u) t
-    (λ u g l. says_none (set tab (t * 385) 0) u (get_or-set_other tab (t * 385) (u * 385) 0 0 (λ e. omega arith) ∙ (before u g l).count))
-    (λ l. says_none (set tab (t * 385) 0) t (get_or-set_same tab (t * 385) 0 0 (omega arith)))
-
 -- the next of the tables that are left, and those behind it
 pub tables_next : (s : List ℕ) (from n t : ℕ) (all : List (List Structure)) → t < n → tables_from s from (n - t) ≡ drop t all
     → (get_or all t [] ≡ table_at s from) × (tables_from s (after_table s from) (n - (t + 1)) ≡ drop (t + 1) all)

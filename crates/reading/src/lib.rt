@@ -35,11 +35,7 @@ fn begins_with(f: Form, w: u64, left: usize) -> bool
     requires { (1 ≤ f.prefix) × (f.prefix ≤ 32) }
     ensures { (c : Structure) (bs : List ℕ) → form_of c ≡ f → Seen bs w left → result ≡ begins (prefix_of c) bs }
 {
-    let p = f.prefix;
-    if left < p {
-        return false;
-    }
-    bits::top(w, p) == f.word as u64
+    f.prefix <= left && bits::top(w, f.prefix) == f.word as u64
 }
 
 // The form of the structure of table t, counted from 0, whose prefix the window begins with, and its place, from 1: the first such.
@@ -51,13 +47,11 @@ fn walk(tab: &[u32], t: usize, w: u64, left: usize) -> Option<(Form, usize)>
         → Placed (compared_in (get_or tables t []) bs) result }
 {
     let n = tab[t * compiled::TABLE] as usize;
-    let mut k = 0;
-    while k < n {
+    for k in 0..n {
         let f = compiled::form_at(tab, t, k);
         if begins_with(f, w, left) {
             return Some((f, k + 1));
         }
-        k += 1;
     }
     None
 }
@@ -68,10 +62,7 @@ fn fits_guess(f: Form, p: usize, w: u64, left: usize) -> bool
     requires { (1 ≤ f.prefix) × (f.prefix ≤ 32) }
     ensures { (c : Structure) (bs : List ℕ) → form_of c ≡ f → Seen bs w left → result ≡ true → begins (prefix_of c) bs ≡ true }
 {
-    if f.prefix != p {
-        return false;
-    }
-    begins_with(f, w, left)
+    f.prefix == p && begins_with(f, w, left)
 }
 
 // The form that `walk` finds, most often at once: in a right table no other structure matches if the one that the first bits point to
@@ -101,9 +92,10 @@ fn raised(n: usize, half: usize) -> usize
     ensures { ((w : ℕ) → half ≡ 2 ^ w → from_zero value_zero result ≡ signed (suc w) n) × (result < 262144) }
 {
     if n < half {
-        return bits::VALUE_ZERO + n;
+        bits::VALUE_ZERO + n
+    } else {
+        bits::VALUE_ZERO + n - 2 * half
     }
-    bits::VALUE_ZERO + n - 2 * half
 }
 
 // The value of a form that is no switch and was matched at a place of its table, 131,072 added, and the cursor behind its code; none
@@ -116,29 +108,22 @@ fn value_of(f: Form, place: usize, w: u64, left: usize, c: Cursor) -> Option<(us
     ensures onward { Onward c.at (c.at + left) result }
     ensures summed { Summed (c.compared + place) result }
 {
-    let at = c.at;
-    let table = c.table;
     let compared = c.compared + place;
     let p = f.prefix;
     let q = f.remainder;
     if q == 0 {
-        let behind = Cursor {
-            at: at + p,
-            table,
-            compared,
-        };
-        return Some((f.lo, behind));
+        let at = c.at + p;
+        return Some((f.lo, Cursor { at, compared, ..c }));
     }
     if left < p + q {
         return None;
     }
     let n = bits::after(w, p, q) as usize;
-    let behind = Cursor {
-        at: at + p + q,
-        table,
-        compared,
-    };
-    Some((raised(n, bits::VALUE_ZERO - f.lo), behind))
+    let at = c.at + p + q;
+    Some((
+        raised(n, bits::VALUE_ZERO - f.lo),
+        Cursor { at, compared, ..c },
+    ))
 }
 
 impl Cursor {
@@ -164,10 +149,9 @@ impl Cursor {
             → SummedOf tables (bits_in s.now)
             (self.compared + compared_coded tables self.table (drop self.at (bits_in s.now))) result }
     {
-        let at = self.at;
         let t = self.table - 1;
-        let left = s.len() * 8 - at;
-        let w = bits::window(s, at);
+        let left = s.len() * 8 - self.at;
+        let w = bits::window(s, self.at);
         let Some((f, place)) = find(tab, t, w, left) else {
             return ControlFlow::Break(None);
         };
@@ -189,14 +173,10 @@ impl Cursor {
             → SummedOf tables (bits_in s.now)
             (self.compared + place + compared_coded tables f.to (drop (self.at + f.prefix) (bits_in s.now))) result }
     {
-        let at = self.at;
-        let compared = self.compared;
-        let p = f.prefix;
-        let table = f.to;
         let next = Cursor {
-            at: at + p,
-            table,
-            compared: compared + place,
+            at: self.at + f.prefix,
+            table: f.to,
+            compared: self.compared + place,
         };
         if depth == 0 {
             return ControlFlow::Continue(next);
@@ -232,10 +212,9 @@ impl Cursor {
         ensures summed { (tables : List (List Structure)) → Compiled tables tab.now
             → Summed (self.compared + compared_coded tables self.table (drop self.at (bits_in s.now))) result }
     {
-        let at = self.at;
         let t = self.table - 1;
-        let left = s.len() * 8 - at;
-        let w = bits::window(s, at);
+        let left = s.len() * 8 - self.at;
+        let w = bits::window(s, self.at);
         let (first, place) = find(tab, t, w, left)?;
         if first.to == 0 {
             return value_of(first, place, w, left, self);
@@ -253,20 +232,13 @@ impl Cursor {
         ensures onward { Onward self.at (length s.now * 8) result }
         ensures summed { Summed self.compared result }
     {
-        let at = self.at;
-        let table = self.table;
-        let compared = self.compared;
-        if s.len() * 8 - at < 16 {
+        if s.len() * 8 - self.at < 16 {
             return None;
         }
-        let w = bits::window(s, at);
+        let w = bits::window(s, self.at);
         let n = bits::top(w, 8) as usize + bits::after(w, 8, 8) as usize * 256;
-        let behind = Cursor {
-            at: at + 16,
-            table,
-            compared,
-        };
-        Some((raised(n, bits::SAMPLE_ZERO), behind))
+        let at = self.at + 16;
+        Some((raised(n, bits::SAMPLE_ZERO), Cursor { at, ..self }))
     }
 
     // The next value of a stream, 131,072 added, and the moved cursor; none where the bits match no code or run out. It is read by the
@@ -279,9 +251,10 @@ impl Cursor {
         ensures summed { (tables : List (List Structure)) → CompiledOrNone tables tab.now
             → Summed (self.compared + compared_next tables self.table (drop self.at (bits_in s.now))) result }
     {
-        if tab.len() == 0 {
-            return self.plain(s);
+        if tab.is_empty() {
+            self.plain(s)
+        } else {
+            self.coded(s, tab)
         }
-        self.coded(s, tab)
     }
 }

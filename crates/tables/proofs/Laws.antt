@@ -18,7 +18,7 @@ use Rattle.bits.specs.Bits.{low_first, begins}
 use Rattle.tables.specs.declared.Structure.{Structure}
 use Rattle.tables.specs.Structures.{structure_at, structures_at, remainder_of, mode_right, no_structure}
 use Rattle.tables.specs.Structures.{structure_right, apart, prefix_free}
-use Rattle.tables.specs.Section2.{is_default, table_count, table_at, after_table, tables_from, after_tables, table_right, section2_right}
+use Rattle.tables.specs.Section2.{is_default, table_count, table_at, after_table, tables_from, table_right, section2_right}
 
 -- the part that a test picks holds where the rule holds
 either : (t a b : Bool) → cond t a b ≡ true → ((t ≡ true) × (a ≡ true)) ⊎ ((t ≡ false) × (b ≡ true))
@@ -26,16 +26,6 @@ either true a b h = inl (refl, h)
 either false a b h = inr (refl, h)
 
 -- ---- structures and tables one after another
-
--- the first of the structures that are left
-pub structures_cons : (s : List ℕ) (o n : ℕ) → 0 < n → structures_at s o n ≡ structure_at s o ∷ structures_at s (o + 9) (n - 1)
-unfolding structures_at
-structures_cons s o n h = let e : n ≡ suc (n - 1) = omega arith in ap (structures_at s o) e
-
--- no structure is left
-pub structures_none : (s : List ℕ) (o n : ℕ) → n ≤ 0 → structures_at s o n ≡ []
-unfolding structures_at
-structures_none s o n h = let e : n ≡ 0 = omega arith in ap (structures_at s o) e
 
 -- n structures are n
 pub length_structures_at : (s : List ℕ) (o n : ℕ) → length (structures_at s o n) ≡ n
@@ -94,16 +84,6 @@ pub length_tables : (s : List ℕ) (o n : ℕ) → length (tables_from s o n) �
 unfolding tables_from
 length_tables s o zero = refl
 length_tables s o (suc n) = ap suc (length_tables s (after_table s o) n)
-
--- the place after the tables is that after the others
-pub after_more : (s : List ℕ) (o n : ℕ) → 0 < n → after_tables s o n ≡ after_tables s (after_table s o) (n - 1)
-unfolding after_tables
-after_more s o n h = let e : n ≡ suc (n - 1) = omega arith in ap (after_tables s o) e
-
--- the place after no table
-pub after_none : (s : List ℕ) (o n : ℕ) → n ≤ 0 → after_tables s o n ≡ o
-unfolding after_tables
-after_none s o n h = let e : n ≡ 0 = omega arith in ap (after_tables s o) e
 
 -- ---- prefixes
 

@@ -1,6 +1,6 @@
 -- The structure that the first bits point to is tested before it is taken; where it passes, no other structure of a right table
 -- matches.
-use Prim.Native.Nat.{ℕ, suc, ◌*◌, ◌%◌, ◌<◌}
+use Prim.Native.Nat.{ℕ, suc, ◌%◌, ◌<◌}
 use mathlib.Core.Path.{◌≡◌, sym, ap, ◌∙◌}
 use mathlib.Core.List.{List, []}
 use mathlib.Core.Option.{some}
@@ -8,7 +8,7 @@ use native.Mathlib.Omega.{arith}
 use lib.ListN.{length, get_or}
 use Rattle.tables.specs.declared.Structure.{Structure}
 use Rattle.tables.specs.Structures.{no_structure}
-use Rattle.compiled.proofs.Laws.{held_count, held_form, held_fine, held_apart}
+use Rattle.compiled.proofs.Laws.{held_form, held_fine, held_apart}
 use Rattle.compiled.specs.InnerForm.{form_of, Compiled}
 use Rattle.reading.specs.Reading.{matching}
 use Rattle.reading.specs.Compared.{compared_in}
@@ -16,14 +16,6 @@ use Rattle.reading.specs.InnerCursor.{Seen, formed}
 use Rattle.reading.proofs.Trip.{matching_begun}
 use Rattle.reading.proofs.find.Goals as goal
 use Rattle.reading.proofs.find.Goals.{Then-fits_guess}
-
-pub overflow_cast-tab : goal.overflow_cast-tab
-overflow_cast-tab c = omega (arith, c.type_inv.tab (c.args.t * 385))
-
-pub form_at-guessed-requires : goal.form_at-guessed-requires
-form_at-guessed-requires c =
-    let ready = c.requires.0.1 in
-    (ready.room, omega arith, omega (arith, held_count ready c.args.t (omega arith)))
 
 pub fits_guess-requires : goal.fits_guess-requires
 fits_guess-requires c =

@@ -9,8 +9,8 @@ use Rattle.reading.proofs.raised.Goals as goal
 pub returns-then-n-half : goal.returns-then-n-half
 returns-then-n-half c = (λ w e. lower_low w c.args.n (omega arith), omega arith)
 
-pub returns : goal.returns
-returns c = let n = c.args.n in (
+pub returns-else-n-half : goal.returns-else-n-half
+returns-else-n-half c = let n = c.args.n in (
   λ w e.
       ap (λ (half : ℕ). from_zero 131072 (131072 + n - 2 * half)) e ∙ lower_high w n (omega arith) (omega arith) (omega arith),
   omega arith,

@@ -20,8 +20,8 @@ use Rattle.reading.proofs.value_of.Goals.{Start}
 own : (c : Start) → ValueForm c.requires.0.0 c.args.f
 own c = value_form c.requires.0.0 c.args.f c.requires.0.1 c.requires.0.2 c.requires.0.3
 
-pub overflow_add-behind : goal.overflow_add-behind
-overflow_add-behind c = omega (arith, (own (goal.at.overflow_add-behind c).Start).fine.most)
+pub overflow_add-at : goal.overflow_add-at
+overflow_add-at c = omega (arith, (own (goal.at.overflow_add-at c).Start).fine.most)
 
 pub returns-then-q-eq0 : goal.returns-then-q-eq0
 returns-then-q-eq0 c = let a = c.args in record {
@@ -71,11 +71,11 @@ raised-requires c = let a = c.args in
     let p = ap (λ (x : ℕ). 2 ^ x) h.1 ∙ pow-suc 2 h.0 in
     omega (arith, pow_pos h.0, c.after-n.ensures)
 
-pub overflow_add-behind-2 : goal.overflow_add-behind-2
-overflow_add-behind-2 c = omega (arith, (own (goal.at.overflow_add-behind-2 c).Start).fine.most)
+pub overflow_add-at-2 : goal.overflow_add-at-2
+overflow_add-at-2 c = omega (arith, (own (goal.at.overflow_add-at-2 c).Start).fine.most)
 
-pub overflow_add-behind-3 : goal.overflow_add-behind-3
-overflow_add-behind-3 c = let v = own (goal.at.overflow_add-behind-3 c).Start in
+pub overflow_add-at-3 : goal.overflow_add-at-3
+overflow_add-at-3 c = let v = own (goal.at.overflow_add-at-3 c).Start in
     omega (arith, v.fine.most, v.fine.rest)
 
 pub returns : goal.returns

@@ -1,5 +1,5 @@
-use Prim.Native.Nat.{ℕ, ◌*◌, ◌<◌}
-use mathlib.Core.Path.{◌≡◌, refl, sym, ap, ◌∙◌}
+use Prim.Native.Nat.{ℕ, ◌<◌}
+use mathlib.Core.Path.{◌≡◌, sym, ap, ◌∙◌}
 use mathlib.Core.List.{List, []}
 use mathlib.Core.Option.{some}
 use native.Mathlib.Numerals.{add-one}
@@ -14,15 +14,6 @@ use Rattle.reading.specs.InnerCursor.{Seen, formed}
 use Rattle.reading.proofs.Cursors.{matching_here, matching_behind, matching_end}
 use Rattle.reading.proofs.walk.Goals as goal
 use Rattle.reading.proofs.walk.Goals.{After-begins_with}
-
-pub bounds-tab-t : goal.bounds-tab-t
-bounds-tab-t c = omega (arith, c.requires.0.1.room)
-
-pub overflow_cast-n : goal.overflow_cast-n
-overflow_cast-n c = omega (arith, c.type_inv.tab (c.args.t * 385))
-
-pub loop-k-init : goal.loop-k-init
-loop-k-init c = (omega arith, λ tables bs ready seen. (refl, omega arith))
 
 pub form_at-f-requires : goal.form_at-f-requires
 form_at-f-requires c = let ready = c.requires.0.1 in
@@ -51,14 +42,6 @@ there : (c : After-begins_with) →
     (tables : List (List Structure)) → Compiled tables a.tab.now → c.loop-k.k < length (get_or tables a.t [])
 there c tables ready = omega (arith, (ready.says c.args.t (omega arith)).count)
 
--- one of at most 64
-few : (c : After-begins_with) → c.loop-k.k < 64
-few c =
-    omega (arith, held_count c.requires.0.1 c.args.t (omega arith))
-
-pub overflow_add-result : goal.overflow_add-result
-overflow_add-result c = omega (arith, few (goal.at.overflow_add-result c).After-begins_with)
-
 pub returns-then-begins_with : goal.returns-then-begins_with
 returns-then-begins_with c = let l = c.loop-k in
     let cs : List (List Structure) → List Structure =
@@ -66,33 +49,27 @@ returns-then-begins_with c = let l = c.loop-k in
       found = λ tables bs ready seen.
           let told = tells (goal.at.returns-then-begins_with c).After-begins_with tables bs ready seen in
           let here = matching_here (cs tables) bs l.k (there (goal.at.returns-then-begins_with c).After-begins_with tables ready) (sym told.1 ∙ c.if-begins_with.true) in
-          ap some (sym told.0) ∙ ap formed (sym here.0 ∙ (l.invariant.1 tables bs ready seen).0);
+          ap some (sym told.0) ∙ ap formed (sym here.0 ∙ (l.invariant tables bs ready seen).0);
       placed = λ tables bs ready seen.
           let told = tells (goal.at.returns-then-begins_with c).After-begins_with tables bs ready seen in
           let here = matching_here (cs tables) bs l.k (there (goal.at.returns-then-begins_with c).After-begins_with tables ready) (sym told.1 ∙ c.if-begins_with.true) in
-          omega (arith, here.1, (l.invariant.1 tables bs ready seen).1);
+          omega (arith, here.1, (l.invariant tables bs ready seen).1);
     }
-
-pub overflow_add-k : goal.overflow_add-k
-overflow_add-k c = omega (arith, few (goal.at.overflow_add-k c).After-begins_with)
 
 pub loop-k-preserved : goal.loop-k-preserved
 loop-k-preserved c = let l = c.loop-k in
-    let t = c.args.t in (
-      omega arith,
-      λ tables bs ready seen.
-          let cs = get_or tables t [] in
-          let told = tells (goal.at.loop-k-preserved c).After-begins_with tables bs ready seen in
-          let behind = matching_behind cs bs l.k (there (goal.at.loop-k-preserved c).After-begins_with tables ready) (sym told.1 ∙ c.if-begins_with.false) in
-          let inv = l.invariant.1 tables bs ready seen in
-          rw (add-one l.k) (sym behind.0 ∙ inv.0, omega (arith, behind.1, inv.1)),
-    )
+    λ tables bs ready seen.
+    let cs = get_or tables c.args.t [] in
+    let told = tells (goal.at.loop-k-preserved c).After-begins_with tables bs ready seen in
+    let behind = matching_behind cs bs l.k (there (goal.at.loop-k-preserved c).After-begins_with tables ready) (sym told.1 ∙ c.if-begins_with.false) in
+    let inv = l.invariant tables bs ready seen in
+    rw (add-one l.k) (sym behind.0 ∙ inv.0, omega (arith, behind.1, inv.1))
 
 pub returns : goal.returns
 returns c = let l = c.loop-k in
     let t = c.args.t in record {
       found = λ tables bs ready seen.
           let end = matching_end (get_or tables t []) bs l.k (omega (arith, (ready.says t (omega arith)).count)) in
-          ap formed (sym end ∙ (l.invariant.1 tables bs ready seen).0);
+          ap formed (sym end ∙ (l.invariant tables bs ready seen).0);
       placed = λ tables bs ready seen. tt;
     }

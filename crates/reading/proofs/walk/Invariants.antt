@@ -1,5 +1,5 @@
 -- At every turn the structures that are left decide, since none before matched; the form of the next one tells whether it does.
-use Prim.Native.Nat.{ℕ, ◌+◌, ◌-◌, ◌≤◌}
+use Prim.Native.Nat.{ℕ, ◌+◌}
 use mathlib.Core.Path.{◌≡◌}
 use mathlib.Core.List.{List, []}
 use lib.ListN.{get_or, drop}
@@ -11,10 +11,6 @@ use Rattle.reading.specs.InnerCursor.{Seen}
 use Rattle.reading.proofs.walk.Given as goal
 
 abbrev pub invariant-loop-k : goal.invariant-loop-k
-invariant-loop-k l = (l.k ≤ l.n)
-    × ((tables : List (List Structure)) (bs : List ℕ) → Compiled tables l.tab → Seen bs l.w l.left
+invariant-loop-k l = (tables : List (List Structure)) (bs : List ℕ) → Compiled tables l.tab → Seen bs l.w l.left
     → (matching (drop l.k (get_or tables l.t [])) bs ≡ matching (get_or tables l.t []) bs)
-    × (l.k + compared_in (drop l.k (get_or tables l.t [])) bs ≡ compared_in (get_or tables l.t []) bs))
-
-abbrev pub decreases-loop-k : goal.decreases-loop-k
-decreases-loop-k l = l.n - l.k
+    × (l.k + compared_in (drop l.k (get_or tables l.t [])) bs ≡ compared_in (get_or tables l.t []) bs)

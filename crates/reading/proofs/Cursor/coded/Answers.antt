@@ -17,9 +17,6 @@ use Rattle.reading.proofs.Cursors.{length_left, seen_left, found_none, FoundForm
 use Rattle.reading.proofs.Cursor.coded.Goals as goal
 use Rattle.reading.proofs.Cursor.coded.Goals.{After-follow, In_ok-first, In-Continue}
 
-pub find-requires : goal.find-requires
-find-requires c = (c.requires.0, omega arith)
-
 -- the form that was found is that of the structure that is matched
 found : (c : In_ok-first) →
     let a = c.args in
@@ -90,10 +87,6 @@ further : (c : In-Continue) →
 further c =
     let a = c.args in
     subst (OnwardOf a.self.at (length a.s.now * 8)) c.in-Continue.is c.follow.ensures.onward
-
-pub by_bursts-requires : goal.by_bursts-requires
-by_bursts-requires c =
-    (c.requires.0, omega arith, (further c).1)
 
 pub returns-in-Break : goal.returns-in-Break
 returns-in-Break c =
