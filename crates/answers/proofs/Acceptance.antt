@@ -12,12 +12,11 @@ use lib.Seq.{take_at, drop-drop}
 use Rattle.wire.specs.Numbers.{part}
 use Rattle.wire.specs.RuleWords.{every}
 use Rattle.header.specs.declared.Field.{Field}
-use Rattle.header.specs.declared.Step.TheVariants.{Found}
 use Rattle.header.proofs.Laws.{step_found, fields_step}
 use Rattle.header.specs.Fields.{step_at, onward, fields_from, with_tag, occurring}
 use Rattle.pointers.specs.Pointers.{data_at, count_of, present, start_of, length_of, section_of, pointers_from}
 use Rattle.record.specs.Opening.{open_refusal, opens, open_count, open_numbers}
-use Rattle.fields.specs.declared.Place.TheVariants.{At, Refused}
+use Rattle.std.specs.Prelude.{Some, Ok, Err}
 use Rattle.fields.specs.Lookup.{place_found, field_place, walk_place, refusal_of, part_bytes}
 use Rattle.fields.proofs.Laws.{place_opened, found_inside}
 use Rattle.bits.specs.Bits.{bits_in}
@@ -59,24 +58,24 @@ opened_whole r lent kept =
     (none, all, rw all)
 
 shown : (r : List ℕ) (tag n : ℕ) (f : Field) → AllKept (rows_opened r)
-    → occurring n (with_tag tag (fields_from (section_of r 1) data_at)) ≡ Found f
+    → occurring n (with_tag tag (fields_from (section_of r 1) data_at)) ≡ Some f
     → (refusal_of (field_place r tag n) ≡ 0) × (part_bytes r (field_place r tag n) ≡ part r (start_of r 1 + f.start) (start_of r 1 + f.end))
 unfolding field_place
 shown r tag n f kept e =
     let start = start_of r 1 in
     let order = (found_inside r n tag f e).0 in
     let end : start + f.start + (f.end - f.start) ≡ start + f.end = omega arith in
-    let place : field_place r tag n ≡ At (start + f.start) (f.end - f.start) =
-    place_opened r _ (Refused (open_refusal r)) (opened r kept) ∙ ap (place_found start) e in
+    let place : field_place r tag n ≡ Ok (record { start = start + f.start; size = f.end - f.start }) =
+    place_opened r _ (Err (open_refusal r)) (opened r kept) ∙ ap (place_found start) e in
     rw (place, end) (refl, refl)
 
 walked : (r : List ℕ) → AllKept (rows_opened r) → (refusal_of (walk_place r) ≡ 0) × (part_bytes r (walk_place r) ≡ section_of r 1)
 unfolding walk_place section_of
-walked r kept = rw (place_opened r (At (start_of r 1) (length_of r 1)) (Refused (open_refusal r)) (opened r kept)) (refl, refl)
+walked r kept = rw (place_opened r (Ok (record { start = start_of r 1; size = length_of r 1 })) (Err (open_refusal r)) (opened r kept)) (refl, refl)
 
 -- ---- a step of the walk
 
-step_shown : (s : List ℕ) (at : ℕ) (f : Field) → step_at s at ≡ Found f
+step_shown : (s : List ℕ) (at : ℕ) (f : Field) → step_at s at ≡ Some f
     → (fields_from s at ≡ f ∷ fields_from s f.end) × (f.start ≤ f.end) × (f.end ≤ length s)
 step_shown s at f e = let w = step_found s at f e in (fields_step s at ∙ ap (onward (fields_from s)) e, w.order, w.end)
 

@@ -11,14 +11,13 @@ use borrow.Author.Tests.{eqb-true, eq-eqb, ne_eqb}
 use lib.IntN.{ℤ, pos}
 use lib.ListN.{length, take, replicate}
 use Rattle.wire.specs.RuleWords.{every, unless}
-use Rattle.header.specs.declared.Step.{Step}
-use Rattle.header.specs.declared.Step.TheVariants.{Found, End}
+use Rattle.header.specs.declared.Field.{Field}
 use Rattle.header.specs.Fields.{fields_from, with_tag, occurring}
 use Rattle.header.specs.Header.{found_keeps, any_field}
 use Rattle.pointers.specs.Pointers.{data_at, start_of, length_of, section_of, pointers_from}
 use Rattle.record.specs.Opening.{open_refusal, opens, open_count, open_numbers}
-use Rattle.fields.specs.declared.Place.{Place}
-use Rattle.fields.specs.declared.Place.TheVariants.{At, Refused}
+use Rattle.fields.specs.declared.Part.{Part}
+use Rattle.std.specs.Prelude.{Option as Answer, Result, Ok, Err, Some, None}
 use Rattle.fields.specs.Lookup.{place_found, field_place, walk_place, refusal_of, part_bytes}
 use Rattle.samples.specs.Trace.{Trace, rebuilt, fault}
 use Rattle.rules.specs.LeadRules.{beat_subtracted, tables_right, sections3_to6_right, agrees, has_lead, lead_refusal}
@@ -75,7 +74,7 @@ not_opened r lent n e =
     (none, rw none)
 
 -- a place that is refused as opening is, or by what is found
-refused_or : (b : Bool) (n : ℕ) (p : Place) → refusal_of (cond b p (Refused n)) ≡ cond b (refusal_of p) n
+refused_or : (b : Bool) (n : ℕ) (p : Result Part ℕ) → refusal_of (cond b p (Err n)) ≡ cond b (refusal_of p) n
 refused_or true n p = refl
 refused_or false n p = refl
 
@@ -87,21 +86,21 @@ field r tag k =
     ∙ ap (λ (m : ℕ). cond (opens r) m (open_refusal r)) (found step)
     ∙ behind_opened r ((10, found_keeps any_field step) ∷ [])
   where
-    found : (step : Step) → refusal_of (place_found (start_of r 1) step) ≡ cond (found_keeps any_field step) 0 10
-    found (Found f) = refl
-    found End = refl
+    found : (step : Answer Field) → refusal_of (place_found (start_of r 1) step) ≡ cond (found_keeps any_field step) 0 10
+    found (Some f) = refl
+    found None = refl
 
 -- a place that is refused is a refusal and has no bytes
-not_shown : (r : List ℕ) (n : ℕ) (p : Place) → refusal_of p ≡ suc n → (p ≡ Refused (suc n)) × (part_bytes r p ≡ [])
-not_shown r n (At start size) h = absurd (omega arith)
-not_shown r n (Refused number) h = (ap Refused h, refl)
+not_shown : (r : List ℕ) (n : ℕ) (p : Result Part ℕ) → refusal_of p ≡ suc n → (p ≡ Err (suc n)) × (part_bytes r p ≡ [])
+not_shown r n (Ok part) h = absurd (omega arith)
+not_shown r n (Err number) h = (ap Err h, refl)
 
 -- a walk starts as opening goes
 walk : (r : List ℕ) → refusal_of (walk_place r) ≡ first_broken (rows_opened r) 0
 unfolding walk_place opens
 walk r = go (eqb (open_refusal r) 0) refl ∙ opening r
   where
-    go : (b : Bool) → eqb (open_refusal r) 0 ≡ b → refusal_of (cond b (At (start_of r 1) (length_of r 1)) (Refused (open_refusal r))) ≡ open_refusal r
+    go : (b : Bool) → eqb (open_refusal r) 0 ≡ b → refusal_of (cond b (Ok (record { start = start_of r 1; size = length_of r 1 })) (Err (open_refusal r))) ≡ open_refusal r
     go true e = sym (eqb-true (open_refusal r) 0 e)
     go false e = refl
 
@@ -145,7 +144,7 @@ not_merged a b out n e = rw (e, ne_eqb (suc n) 0 (omega arith)) (refl, refl)
 found_none : (start size : ℕ) → refusal_of (part_or_none start size) ≡ 0
 found_none start size = go (eqb size 0)
   where
-    go : (b : Bool) → refusal_of (cond b (At 0 0) (At start size)) ≡ 0
+    go : (b : Bool) → refusal_of (cond b (Ok (record { start = 0; size = 0 })) (Ok (record { start = start; size = size }))) ≡ 0
     go true = refl
     go false = refl
 

@@ -13,12 +13,11 @@
 -- The checker accepts a function only if it ends, for all that may come in; no call has a condition on its caller. It also accepts none
 -- that changes what is lent only to be read. So neither needs a statement. The check, comparing identifiers, a step of the walk or along
 -- the index, and a row asked alone refuse nothing.
-use Rattle.std.specs.Prelude.{ℕ, suc, ◌+◌, ◌-◌, ◌*◌, ◌≤◌, ◌<◌, ◌≡◌, Bool, true, false, not, ◌&&◌, cond, List, [], ◌∷◌, ◌++◌, map, ◌⊎◌, ◌↔◌, eqb, ℤ, pos, length, get_or, take, drop, replicate}
+use Rattle.std.specs.Prelude.{ℕ, suc, ◌+◌, ◌-◌, ◌*◌, ◌≤◌, ◌<◌, ◌≡◌, Bool, true, false, not, ◌&&◌, cond, List, [], ◌∷◌, ◌++◌, map, ◌⊎◌, ◌↔◌, Some, None, Err, eqb, ℤ, pos, length, get_or, take, drop, replicate}
 use Rattle.wire.specs.Bounds.{most_bytes, most_samples, most_stream_bytes}
 use Rattle.wire.specs.Numbers.{part}
 use Rattle.wire.specs.RuleWords.{every}
 use Rattle.header.specs.declared.Field.{Field}
-use Rattle.header.specs.declared.Step.TheVariants.{Found, End}
 use Rattle.header.specs.Fields.{step_at, fields_from, with_tag, occurring}
 use Rattle.header.specs.Header.{found_keeps, any_field, section1_right}
 use Rattle.bits.specs.Bits.{bits_in}
@@ -26,7 +25,6 @@ use Rattle.pointers.specs.Pointers.{data_at, count_of, start_of, section_of, poi
 use Rattle.record.specs.RecordRules.{length_right, record_check_right, section0_right, all_placed_right, checks_right, fields_right}
 use Rattle.record.specs.Opening.{open_refusal, open_count, open_numbers}
 use Rattle.fields.specs.Identifier.{same}
-use Rattle.fields.specs.declared.Place.TheVariants.{Refused}
 use Rattle.fields.specs.Lookup.{field_place, walk_place, refusal_of, part_bytes}
 use Rattle.tables.specs.declared.Structure.{Structure}
 use Rattle.samples.specs.Differences.{differences}
@@ -174,9 +172,9 @@ pub record Demand1 : Type 0 where
   -- > It shows no trace or field and changes no lent byte,
   pub not_opened : (r lent : List ℕ) (n : ℕ) → open_refusal r ≡ suc n → (open_count r ≡ 0) × (open_numbers r lent ≡ lent)
   pub not_walked : (r : List ℕ) (n : ℕ) → refusal_of (walk_place r) ≡ suc n
-      → (walk_place r ≡ Refused (suc n)) × (part_bytes r (walk_place r) ≡ [])
+      → (walk_place r ≡ Err (suc n)) × (part_bytes r (walk_place r) ≡ [])
   pub not_shown : (r : List ℕ) (tag k n : ℕ) → refusal_of (field_place r tag k) ≡ suc n
-      → (field_place r tag k ≡ Refused (suc n)) × (part_bytes r (field_place r tag k) ≡ [])
+      → (field_place r tag k ≡ Err (suc n)) × (part_bytes r (field_place r tag k) ≡ [])
   pub not_entered : (r : List ℕ) (place n : ℕ) → (entry_answer r place).refusal ≡ suc n → entry_answer r place ≡ refused_entry (suc n)
   pub not_read : (r : List ℕ) (place n room work : ℕ) (out : List ℤ) → (lead_answer r place room work).refusal ≡ suc n
       → (lead_answer r place room work ≡ refused_lead (suc n)) × (out_after (read_trace r place room work) out ≡ out)
@@ -189,7 +187,7 @@ pub record Demand1 : Type 0 where
   pub not_merged : (a b out : List ℕ) (n : ℕ) → (merge_answer a b (length out)).refusal ≡ suc n
       → (merge_answer a b (length out) ≡ refused_index (suc n)) × (merged_into a b out ≡ out)
   pub not_found : (lent : List ℕ) (used : ℕ) (id : List ℕ) (n : ℕ) → refusal_of (find_place lent used id) ≡ suc n
-      → (find_place lent used id ≡ Refused (suc n)) × (part_bytes lent (find_place lent used id) ≡ [])
+      → (find_place lent used id ≡ Err (suc n)) × (part_bytes lent (find_place lent used id) ≡ [])
   -- > save that work space is cleared once its use has begun.
   -- It is zeros, all of it, once a beat's reading or a search has begun, refused or not, and untouched otherwise
   pub work_read : (r : List ℕ) (place room : ℕ) (work : List ℤ)
@@ -223,13 +221,13 @@ pub record Demand2 : Type 0 where
       → (open_refusal r ≡ 0) × (open_count r ≡ count_of r) × (open_numbers r lent ≡ pointers_from r 0 (count_of r) ++ drop (3 * count_of r) lent)
   -- and every field of its Section 1 is shown, byte for byte
   pub shown : (r : List ℕ) (tag k : ℕ) (f : Field) → AllKept (rows_opened r)
-      → occurring k (with_tag tag (fields_from (section_of r 1) data_at)) ≡ Found f
+      → occurring k (with_tag tag (fields_from (section_of r 1) data_at)) ≡ Some f
       → (refusal_of (field_place r tag k) ≡ 0) × (part_bytes r (field_place r tag k) ≡ part r (start_of r 1 + f.start) (start_of r 1 + f.end))
   -- a walk is over Section 1 whole, and its steps meet the fields one after another, each of them whole
   pub walked : (r : List ℕ) → AllKept (rows_opened r) → (refusal_of (walk_place r) ≡ 0) × (part_bytes r (walk_place r) ≡ section_of r 1)
-  pub step_found : (s : List ℕ) (at : ℕ) (f : Field) → step_at s at ≡ Found f
+  pub step_found : (s : List ℕ) (at : ℕ) (f : Field) → step_at s at ≡ Some f
       → (fields_from s at ≡ f ∷ fields_from s f.end) × (f.start ≤ f.end) × (f.end ≤ length s)
-  pub step_end : (s : List ℕ) (at : ℕ) → step_at s at ≡ End → fields_from s at ≡ []
+  pub step_end : (s : List ℕ) (at : ℕ) → step_at s at ≡ None → fields_from s at ≡ []
   -- two identifiers are the same exactly if their bytes are equal
   pub identifiers : (a b : List ℕ) → (same a b ≡ true) ↔ (a ≡ b)
   -- a lead of a record that keeps rows 1 to 10 is shown with what Sections 3 and 6 say of it

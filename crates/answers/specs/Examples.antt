@@ -1,8 +1,8 @@
 -- The examples of 01 (Examples to hold against), as one table, P1 to P10. A whole number is `pos n`, which is n, or `negsuc n`, which is
 -- -(n + 1): `negsuc 3` is -4.
-use Rattle.std.specs.Prelude.{ℕ, ◌*◌, ◌≤◌, ◌≡◌, true, false, List, [], ◌∷◌, ℤ, pos, negsuc, length, take, drop}
+use Rattle.std.specs.Prelude.{ℕ, ◌*◌, ◌≤◌, ◌≡◌, true, false, List, [], ◌∷◌, Some, ℤ, pos, negsuc, length, take, drop}
 use Rattle.wire.specs.Numbers.{part}
-use Rattle.header.specs.declared.Step.TheVariants.{Found}
+
 use Rattle.header.specs.Fields.{step_at}
 use Rattle.bits.specs.Bits.{low_first, bits_in}
 use Rattle.tables.specs.Section2.{tables_in, section2_right}
@@ -113,6 +113,6 @@ pub record Examples : Type 0 where
   pub p9 : (s2 work out : List ℕ) (a : Coded) (w o : List ℕ) → tables_given_right s2 ≡ true → 3 * length (tables_given s2) ≤ length work
       → LeadEncoding s2 samples_p9 2 work out a w o → a.refusal ≡ 15
   -- P10: what the two fields show, and that it is not the same
-  pub p10_fields : (step_at field007 0 ≡ Found (record { tag = 2; start = 3; end = 7 })) × (part field007 3 7 ≡ id007)
-      × (step_at field7 0 ≡ Found (record { tag = 2; start = 3; end = 5 })) × (part field7 3 5 ≡ id7)
+  pub p10_fields : (step_at field007 0 ≡ Some (record { tag = 2; start = 3; end = 7 })) × (part field007 3 7 ≡ id007)
+      × (step_at field7 0 ≡ Some (record { tag = 2; start = 3; end = 5 })) × (part field7 3 5 ≡ id7)
   pub p10 : same id007 id7 ≡ false

@@ -16,10 +16,8 @@ use compose::Head;
 pub fn samples_fit(samples: &[i16])
     ensures { every fits16 samples.now ≡ true }
 {
-    let mut i = 0;
-    while i < samples.len() {
-        let _sample = samples[i];
-        i += 1;
+    for sample in samples {
+        let _sample = *sample;
     }
 }
 

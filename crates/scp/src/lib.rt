@@ -17,15 +17,16 @@ ghost use Rattle.index.specs.Entry.{entry_at};
 ghost use Rattle.index.specs.Index.{find_place};
 ghost use Rattle.filing.specs.Filing.{add_answer, index_after};
 ghost use Rattle.merging.specs.Merging.{merge_answer, merged_into};
+ghost use Rattle.refusals.specs.Refusals.{numbered};
 ghost use Rattle.scp.specs.Boundary.{part_at, shown, one_if};
 
 use compose::{Head, Written};
 use encode::Coded;
-use fields::Place;
+use fields::Part;
 use filing::Indexed;
-use header::Step;
 use index::IndexEntry;
 use leads::{Entry, Lead};
+use refusals::Refusal;
 
 #[repr(C)]
 #[derive(Clone, Copy)]
@@ -54,21 +55,23 @@ pub struct ScpStep {
     pub next: usize,
 }
 
-// A place as numbers.
-fn part_of(place: Place) -> ScpPart
-    ensures { result ≡ part_at place }
-{
-    match place {
-        Place::At(start, size) => ScpPart {
-            refusal: 0,
-            start,
-            length: size,
-        },
-        Place::Refused(number) => ScpPart {
-            refusal: number,
-            start: 0,
-            length: 0,
-        },
+// C takes a part or its refusal as numbers.
+impl From<Result<Part, Refusal>> for ScpPart {
+    ghost from_gives = { λ found part. part ≡ part_at (numbered found) };
+
+    fn from(found: Result<Part, Refusal>) -> Self {
+        match found {
+            Ok(part) => ScpPart {
+                refusal: 0,
+                start: part.start,
+                length: part.size,
+            },
+            Err(refusal) => ScpPart {
+                refusal: refusal.number(),
+                start: 0,
+                length: 0,
+            },
+        }
     }
 }
 
@@ -85,10 +88,15 @@ pub fn scp_open(rec: &[u8], pointers: &mut [u32; 192]) -> ScpOpened
     ensures count { result.count ≡ open_count rec.now }
     ensures numbers { pointers.new ≡ open_numbers rec.now pointers.old }
 {
-    let opened = record::open(rec, pointers);
-    ScpOpened {
-        refusal: opened.refusal,
-        count: opened.count,
+    match record::open(rec, pointers) {
+        Ok(count) => ScpOpened {
+            refusal: 0,
+            count: u32::from(count),
+        },
+        Err(refusal) => ScpOpened {
+            refusal: refusal.number(),
+            count: 0,
+        },
     }
 }
 
@@ -96,24 +104,21 @@ pub fn scp_open(rec: &[u8], pointers: &mut [u32; 192]) -> ScpOpened
 pub fn scp_field(rec: &[u8], tag: u8, occurrence: usize) -> ScpPart
     ensures { result ≡ part_at (field_place rec.now tag occurrence) }
 {
-    part_of(fields::field_place(rec, tag, occurrence))
+    fields::field_place(rec, tag, occurrence).into()
 }
 
 // Two identifiers are the same: 1, else 0.
 pub fn scp_same_identifier(a: &[u8], b: &[u8]) -> u8
     ensures { result ≡ one_if (same a.now b.now) }
 {
-    if fields::same_identifier(a, b) {
-        return 1;
-    }
-    0
+    u8::from(fields::same_identifier(a, b))
 }
 
 // Section 1, over which the fields are walked: the first step is at place 16 of it.
 pub fn scp_walk_start(rec: &[u8]) -> ScpPart
     ensures { result ≡ part_at (walk_place rec.now) }
 {
-    part_of(fields::walk_place(rec))
+    fields::walk_place(rec).into()
 }
 
 // A step of the walk.
@@ -121,18 +126,14 @@ pub fn scp_walk_step(section: &[u8], at: usize) -> ScpStep
     ensures { result ≡ shown at (step_at section.now at) }
 {
     match header::step_at(section, at) {
-        Step::Found(f) => {
-            let start = f.start;
-            let end = f.end;
-            ScpStep {
-                more: 1,
-                tag: f.tag,
-                start,
-                length: end - start,
-                next: end,
-            }
-        }
-        Step::End => ScpStep {
+        Some(f) => ScpStep {
+            more: 1,
+            tag: f.tag,
+            start: f.start,
+            length: f.size(),
+            next: f.end,
+        },
+        None => ScpStep {
             more: 0,
             tag: 0,
             start: 0,
@@ -163,10 +164,7 @@ pub fn scp_lead(rec: &[u8], place: usize) -> Entry
 pub fn scp_breaks(rec: &[u8], row: u8) -> u8
     ensures { result ≡ one_if (not (row_kept rec.now row)) }
 {
-    if rules::row_kept(rec, row) {
-        return 0;
-    }
-    1
+    u8::from(!rules::row_kept(rec, row))
 }
 
 // Encoding a lead's samples by Section 2's data, none if they are empty: the shortest stream, at the front of the output.
@@ -238,7 +236,7 @@ pub fn scp_index_merge(a: &[u8], b: &[u8], out: &mut [u8]) -> Indexed
 pub fn scp_index_find(index: &[u8], used: usize, identifier: &[u8]) -> ScpPart
     ensures { result ≡ part_at (find_place index.now used identifier.now) }
 {
-    part_of(index::find_place(index, used, identifier))
+    index::find_place(index, used, identifier).into()
 }
 
 // The entry at a place of the index, which is not judged.

@@ -10,8 +10,8 @@ use borrow.Author.Tests.{le-leb, lt-leb, eq-eqb}
 use lib.Dec.{leb, eqb}
 use lib.ListN.{length, get_or}
 use Rattle.wire.specs.Numbers.{part}
-use Rattle.header.specs.declared.Step.{Step}
-use Rattle.header.specs.declared.Step.TheVariants.{Found, End}
+use Rattle.std.specs.Prelude.{Option as Answer, Some, None}
+use Rattle.header.specs.declared.Field.{Field}
 use Rattle.header.specs.Fields.{fields_from, with_tag, occurring, shown_bytes}
 use Rattle.header.specs.Header.{section1_right}
 use Rattle.header.proofs.Laws.{found_within}
@@ -53,17 +53,17 @@ module _ (r : List ℕ) (d : List ℕ) (opened : open_refusal r ≡ 0) (p : Plac
   data_there = stands_inner p.there p.holds.stands
 
   -- a field is shown as it was given
-  field_shown : (tag n : ℕ) (step : Step) → occurring n (with_tag tag (fields_from d 0)) ≡ step
+  field_shown : (tag n : ℕ) (step : Answer Field) → occurring n (with_tag tag (fields_from d 0)) ≡ step
       → (refusal_of (field_place r tag n) ≡ refusal_of (place_found 0 step)) × (part_bytes r (field_place r tag n) ≡ shown_bytes d step)
   unfolding field_place
   field_shown tag n step e =
       let place = place_found at (occurring n (with_tag tag (fields_from (section_of r 1) 16))) in
       rw (place_opened r place _ opened, occurring_there p.holds.moved right n tag, e) (go step e)
     where
-      go : (s : Step) → occurring n (with_tag tag (fields_from d 0)) ≡ s
+      go : (s : Answer Field) → occurring n (with_tag tag (fields_from d 0)) ≡ s
           → (refusal_of (place_found at (moved_step s)) ≡ refusal_of (place_found 0 s)) × (part_bytes r (place_found at (moved_step s)) ≡ shown_bytes d s)
-      go End e = (refl, refl)
-      go (Found f) e =
+      go None e = (refl, refl)
+      go (Some f) e =
           let w = found_within n tag d 0 f e in
           let a : at + (16 + f.start) ≡ at + 16 + f.start = omega arith in
           let b : at + 16 + f.start + (16 + f.end - (16 + f.start)) ≡ at + 16 + f.end = omega (arith, w.order) in

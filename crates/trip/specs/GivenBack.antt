@@ -1,11 +1,10 @@
 -- From a record that the writer wrote, the reader gives back (the second demand; 01, What the contracts have to settle): the fields of
 -- Section 1 in their order and byte for byte, and every lead sample for sample, with all that the job says of it, bit 0 of the flags
 -- cleared; and no other lead.
-use Rattle.std.specs.Prelude.{ℕ, ◌+◌, ◌-◌, ◌%◌, ◌≤◌, ◌<◌, ◌≡◌, true, List, [], map, ◌⊎◌, ℤ, length, get_or}
+use Rattle.std.specs.Prelude.{ℕ, ◌+◌, ◌-◌, ◌%◌, ◌≤◌, ◌<◌, ◌≡◌, true, List, [], map, ◌⊎◌, ℤ, length, get_or, Option}
 use Rattle.wire.specs.Numbers.{part}
 use Rattle.wire.specs.RuleWords.{every}
 use Rattle.header.specs.declared.Field.{Field}
-use Rattle.header.specs.declared.Step.{Step}
 use Rattle.header.specs.Fields.{fields_from, with_tag, occurring, shown_bytes}
 use Rattle.pointers.specs.Pointers.{data_at, section_of}
 use Rattle.record.specs.Opening.{open_refusal}
@@ -39,7 +38,7 @@ pub record GivenBack (j : Job) (r : List ℕ) : Type 0 where
   -- is in the data given
   pub section1 : part (section_of r 1) data_at (data_at + length j.section1) ≡ j.section1
   pub walked : fields_from (section_of r 1) data_at ≡ map behind_header (fields_from j.section1 0)
-  pub fields : (tag n : ℕ) (step : Step) → occurring n (with_tag tag (fields_from j.section1 0)) ≡ step
+  pub fields : (tag n : ℕ) (step : Option Field) → occurring n (with_tag tag (fields_from j.section1 0)) ≡ step
       → (refusal_of (field_place r tag n) ≡ refusal_of (place_found 0 step)) × (part_bytes r (field_place r tag n) ≡ shown_bytes j.section1 step)
   -- every lead's samples, with room for them and any work space, and what is answered beside them; how many structures are compared
   -- depends on the stream, which the third demand fixes

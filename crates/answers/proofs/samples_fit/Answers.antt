@@ -6,16 +6,14 @@ use Rattle.wire.specs.RuleWords.{every}
 use Rattle.answers.proofs.Lent.{fit_more}
 use Rattle.answers.proofs.samples_fit.Goals as goal
 
-pub loop-i-init : goal.loop-i-init
+pub loop-sample-init : goal.loop-sample-init
 unfolding every
-loop-i-init c = (omega arith, refl)
+loop-sample-init c = refl
 
-pub loop-i-preserved : goal.loop-i-preserved
-loop-i-preserved c = let s = c.args.samples.now in
-    let l = c.loop-i in
-    (omega arith, rw (add-one l.i) (fit_more s l.i (omega arith) l.invariant.1 c._sample-1.given))
+pub loop-sample-preserved : goal.loop-sample-preserved
+loop-sample-preserved c = let i = c.loop-sample.sample-index in
+    rw (add-one i) (fit_more c.args.samples.now i (omega arith) c.loop-sample.invariant ?)
 
 pub returns : goal.returns
 returns c = let s = c.args.samples.now in
-    let l = c.loop-i in
-    rw (take_all l.i s (omega arith)) at l.invariant.1
+    rw (take_all c.loop-sample.sample-index s (omega arith)) at c.loop-sample.invariant
