@@ -12,7 +12,7 @@ loop-sample-init c = refl
 
 pub loop-sample-preserved : goal.loop-sample-preserved
 loop-sample-preserved c = let i = c.loop-sample.sample-index in
-    rw (add-one i) (fit_more c.args.samples.now i (omega arith) c.loop-sample.invariant ?)
+    rw (add-one i) (fit_more c.args.samples.now i (omega arith) c.loop-sample.invariant c._sample-1.given)
 
 pub returns : goal.returns
 returns c = let s = c.args.samples.now in
