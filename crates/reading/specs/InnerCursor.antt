@@ -6,7 +6,7 @@ use Rattle.bits.specs.InnerRaised.{value_zero, from_zero}
 use Rattle.bits.specs.InnerWindow.{Window}
 use Rattle.tables.specs.declared.Structure.{Structure}
 use Rattle.compiled.specs.declared.Form.{Form}
-use Rattle.compiled.specs.InnerForm.{form_of}
+use Rattle.compiled.specs.InnerForm.{form_of, CompiledSome}
 use Rattle.reading.specs.Reading.{Next, gave, stuck, read_coded}
 use Rattle.reading.specs.Compared.{compared_coded}
 use Rattle.reading.specs.declared.Cursor.{Cursor}
@@ -56,6 +56,10 @@ SummedOf tables bs n (Continue c) = c.compared + compared_coded tables c.table (
 -- a cursor within n bits, at one of eight tables, that has compared no more than 64 structures for each bit
 abbrev pub Within : ℕ → Cursor → Type 0
 Within n c = (c.at ≤ n) × (1 ≤ c.table) × (c.table ≤ 8) × (c.compared ≤ most_structures * c.at)
+
+-- a cursor at which bytes are read by the tables that the numbers say
+abbrev pub Reads : List ℕ → List ℕ → Cursor → Type 0
+Reads tab s c = CompiledSome tab × (length s ≤ 1048576) × Within (length s * 8) c
 
 -- a form that leads on to one of eight tables, by a prefix that is there within n bits
 abbrev pub Leads : ℕ → ℕ → Form → Type 0

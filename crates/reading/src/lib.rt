@@ -13,7 +13,7 @@ ghost use Rattle.tables.specs.Structures.{prefix_of, remainder_of, structure_rig
 ghost use Rattle.compiled.specs.InnerForm.{form_of, Compiled, CompiledSome, CompiledOrNone, CompiledSomeOrNone};
 ghost use Rattle.reading.specs.Reading.{read_coded, read_plain, read_next, matching, value_of};
 ghost use Rattle.reading.specs.Compared.{compared_in, compared_coded, compared_next};
-ghost use Rattle.reading.specs.InnerCursor.{Seen, found_in, formed, Placed, told, told_of, Summed, SummedOf, Within, Leads, Onward, OnwardOf};
+ghost use Rattle.reading.specs.InnerCursor.{Seen, found_in, formed, Placed, told, told_of, Summed, SummedOf, Within, Reads, Leads, Onward, OnwardOf};
 
 use compiled::Form;
 use std::ops::ControlFlow;
@@ -141,7 +141,7 @@ impl Cursor {
     // A code is matched in the current table: a value ends the step, a switch is followed.
     #[cycle(burst_follow)]
     fn burst(self, s: &[u8], tab: &[u32], depth: usize) -> Burst
-        requires { CompiledSome tab.now × (length s.now ≤ 1048576) × Within (length s.now * 8) self }
+        requires { Reads tab.now s.now self }
         ensures told { (tables : List (List Structure)) → Compiled tables tab.now
             → told_of tables (bits_in s.now) result ≡ read_coded tables self.table (drop self.at (bits_in s.now)) }
         ensures onward { OnwardOf self.at (length s.now * 8) result }
@@ -164,7 +164,7 @@ impl Cursor {
     // A switch gives no value: reading carries on in the table that it leads to, or hands back the cursor where the depth is used up.
     #[cycle(burst_follow)]
     fn follow(self, s: &[u8], tab: &[u32], depth: usize, f: Form, place: usize) -> Burst
-        requires { CompiledSome tab.now × (length s.now ≤ 1048576) × Within (length s.now * 8) self × Leads self.at (length s.now * 8) f
+        requires { Reads tab.now s.now self × Leads self.at (length s.now * 8) f
             × (place ≤ most_structures) }
         ensures told { (tables : List (List Structure)) → Compiled tables tab.now
             → told_of tables (bits_in s.now) result ≡ read_coded tables f.to (drop (self.at + f.prefix) (bits_in s.now)) }
@@ -186,7 +186,7 @@ impl Cursor {
 
     // The next value, by bursts: the loop around the bounded depth.
     fn by_bursts(self, s: &[u8], tab: &[u32]) -> Option<(usize, Cursor)>
-        requires { CompiledSome tab.now × (length s.now ≤ 1048576) × Within (length s.now * 8) self }
+        requires { Reads tab.now s.now self }
         ensures told { (tables : List (List Structure)) → Compiled tables tab.now
             → told (bits_in s.now) result ≡ read_coded tables self.table (drop self.at (bits_in s.now)) }
         ensures onward { Onward self.at (length s.now * 8) result }
@@ -205,7 +205,7 @@ impl Cursor {
     // The next value of a stream that is coded by tables. Most often it is the first code's: that is tried here, so that the functions
     // that call each other run only where it is a switch's.
     fn coded(self, s: &[u8], tab: &[u32]) -> Option<(usize, Cursor)>
-        requires { CompiledSome tab.now × (length s.now ≤ 1048576) × Within (length s.now * 8) self }
+        requires { Reads tab.now s.now self }
         ensures told { (tables : List (List Structure)) → Compiled tables tab.now
             → told (bits_in s.now) result ≡ read_coded tables self.table (drop self.at (bits_in s.now)) }
         ensures onward { Onward self.at (length s.now * 8) result }

@@ -52,7 +52,7 @@ burst-follow-requires t c =
     let d = found t (goal.at.burst-follow-requires t c).In-Some c.requires.0.0 c.requires.0.1 in
     let n = length_left c.args.s.now c.args.self.at in
     let on = pos_of_ne-zero c.if-f-eq0.false in
-    (omega arith, (c.requires.0, omega arith, c.requires.2, omega (arith, d.fine.some, d.long, d.fine.to), d.few))
+    (omega arith, (c.requires, omega (arith, d.fine.some, d.long, d.fine.to), d.few))
 
 pub burst-returns-clause-told : goal.burst-returns-clause-told
 burst-returns-clause-told t c = λ tables ready.

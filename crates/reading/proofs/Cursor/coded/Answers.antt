@@ -62,7 +62,7 @@ follow-requires c =
     let d = found (goal.at.follow-requires c).In_ok-first c.requires.0.0 c.requires.0.1 in
     let n = length_left c.args.s.now c.args.self.at in
     let on = pos_of_ne-zero c.if-first-eq0.false in
-    (c.requires.0, omega arith, c.requires.2, omega (arith, d.fine.some, d.long, d.fine.to), d.few)
+    (c.requires, omega (arith, d.fine.some, d.long, d.fine.to), d.few)
 
 -- what following it told is what the rule says at the cursor, and so is the sum
 followed : (c : After-follow) →
