@@ -20,6 +20,8 @@ use std::ops::ControlFlow;
 
 // A place in a stream of bits, the number of the current table, and how many structures were compared on the way: for each code as many
 // as the place of the matched structure in its table.
+// The bytes and the tables go beside it: a struct of the two could not keep what `Reads` says of them, since a ghost field holds a
+// proposition, and `CompiledSome` names the tables that the numbers say (`IsProp` of it is refused).
 #[derive(Clone, Copy)]
 pub struct Cursor {
     pub at: usize,
