@@ -1,22 +1,22 @@
 -- Laws that the proofs of this crate and of those above it cite. Assumes nothing.
-use Prim.Native.Nat.{ℕ, ◌+◌, ◌-◌, ◌≤◌}
+use Prim.Native.Nat.{ℕ, ◌+◌, ◌≤◌}
 use mathlib.Core.Path.{◌≡◌, refl, ap}
-use mathlib.Core.Bool.{Bool, true, false, cond, ◌&&◌}
+use mathlib.Core.Bool.{Bool, cond, ◌&&◌}
 use mathlib.Core.List.{List, [], ◌∷◌}
 use native.Mathlib.Omega.{arith}
+use Rattle.std.proofs.lemmas.Bool.Decides.{nat_tests}
 use lib.Dec.{eqb}
 use lib.ListN.{length, length-take, length-drop}
 use lib.Pointwise.{pointwise}
 use borrow.Author.Tests.{eq-eqb}
-use Rattle.std.specs.Prelude.{Option, Some, None, Result, Ok, Err}
-use Rattle.wire.proofs.Laws.{unlike}
+use Rattle.std.specs.Prelude.{Some, Result, Ok}
 use Rattle.header.specs.declared.Field.{Field}
 use Rattle.header.specs.Fields.{fields_from, with_tag, occurring}
 use Rattle.header.proofs.Laws.{found_within}
 use Rattle.pointers.specs.Pointers.{start_of, section_of}
 use Rattle.record.specs.Opening.{open_refusal, opens}
 use Rattle.fields.specs.declared.Part.{Part}
-use Rattle.fields.specs.Lookup.{place_found, field_place}
+use Rattle.fields.specs.Lookup.{field_place}
 use Rattle.fields.specs.Identifier.{same}
 
 -- of an opened record the first place is taken
@@ -37,22 +37,7 @@ found_inside r n tag f h =
 -- the place of a field lies within the record
 pub place_inside : (r : List ℕ) (tag n : ℕ) (p : Part) → field_place r tag n ≡ Ok p → p.start + p.size ≤ length r
 unfolding field_place
-place_inside r tag n p h = opened (opens r) h
-  where
-    found : (s : Option Field) → occurring n (with_tag tag (fields_from (section_of r 1) 16)) ≡ s → place_found (start_of r 1) s ≡ Ok p
-        → p.start + p.size ≤ length r
-    found None q e = unlike cc
-    found (Some f) q e =
-        let w = found_inside r n tag f q in
-        let a : start_of r 1 + f.start ≡ p.start = cc in
-        let b : f.end - f.start ≡ p.size = cc in
-        omega arith
-
-    opened : (b : Bool)
-        → cond b (place_found (start_of r 1) (occurring n (with_tag tag (fields_from (section_of r 1) 16)))) (Err (open_refusal r)) ≡ Ok p
-        → p.start + p.size ≤ length r
-    opened true e = found (occurring n (with_tag tag (fields_from (section_of r 1) 16))) refl e
-    opened false e = unlike cc
+place_inside r tag n p h = grind (arith, nat_tests, found_inside)
 
 -- lists of numbers that are compared one by one are compared as identifiers are
 pub same_bytes : (a b : List ℕ) → pointwise eqb a b ≡ same a b

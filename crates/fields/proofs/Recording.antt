@@ -1,25 +1,26 @@
 -- What an opened record says of the patient: its first field with a tag, and its identifier, tag 2's bytes without their NUL. Assumes nothing.
 use Prim.Native.Nat.{ℕ, suc, ◌+◌, ◌-◌, ◌≤◌, ◌<◌}
 use mathlib.Core.Path.{◌≡◌, refl, sym}
-use mathlib.Core.Bool.{Bool, true, not, and-eq-true_iff}
+use mathlib.Core.Bool.{Bool, true, not}
 use mathlib.Core.List.{List, [], ◌∷◌, ◌++◌}
 use native.Mathlib.Omega.{arith}
-use borrow.Author.Tests.{leb-true, eqb-true}
-use lib.Dec.{leb, eqb}
+use Rattle.std.proofs.lemmas.Bool.Decides.{nat_tests}
+use borrow.Author.Tests.{eqb-true}
+use lib.Dec.{eqb}
 use lib.ListN.{length, take, drop, length-take, length-drop, take-append-drop}
 use lib.Seq.{take-take, take-suc, get_or-drop, length-take-le}
 use Rattle.std.specs.Prelude.{Some}
 use Rattle.wire.specs.Numbers.{byte_at, part}
 use Rattle.wire.specs.RuleWords.{every, all_in}
 use Rattle.wire.proofs.Every.{all_every}
-use Rattle.wire.proofs.Laws.{kept_first, unlike}
+use Rattle.wire.proofs.Laws.{unlike}
 use Rattle.wire.proofs.Places.{Stands, stands_cut}
 use Rattle.header.specs.declared.Field.{Field}
-use Rattle.header.specs.Fields.{fields_from, fields_end, with_tag, occurring, field_bytes, size_of}
-use Rattle.header.specs.Header.{ends_at, sole, found_keeps, is_identifier, has_size, any_field, tags_right, section1_right}
+use Rattle.header.specs.Fields.{fields_from, with_tag, occurring, field_bytes, size_of}
+use Rattle.header.specs.Header.{sole, found_keeps, is_identifier, has_size, tags_right, section1_right}
 use Rattle.header.proofs.Laws.{Within, found_within}
 use Rattle.pointers.specs.Pointers.{start_of, end_of, section_of}
-use Rattle.record.specs.RecordRules.{length_right, record_check_right, section0_right, all_placed_right, checks_right, fields_right}
+use Rattle.record.specs.RecordRules.{fields_right}
 use Rattle.record.specs.Opening.{open_refusal, opens}
 use Rattle.fields.specs.Lookup.{field_place}
 use Rattle.fields.specs.Recording.{field_of, identifier_of}
@@ -58,15 +59,7 @@ sole_first rule (f ∷ (g ∷ l)) h = unlike cc
 -- an opened record keeps row 6
 tags_kept : (r : List ℕ) → opens r ≡ true → tags_right (section_of r 1) (fields_from (section_of r 1) 16) ≡ true
 unfolding opens open_refusal fields_right section1_right
-tags_kept r o =
-    let s = section_of r 1 in
-    let a = (kept_first (length_right r) 0 _ (eqb-true (open_refusal r) 0 o)).1 in
-    let b = (kept_first (record_check_right r) 1 _ a).1 in
-    let c = (kept_first (section0_right r) 2 _ b).1 in
-    let d = (kept_first (all_placed_right r) 3 _ c).1 in
-    let e = (kept_first (checks_right r) 4 _ d).1 in
-    let f = (kept_first (fields_right r) 5 _ e).0 in
-    ((and-eq-true_iff (ends_at 1 s (fields_end 16 (fields_from s 16))) _).0 f).1
+tags_kept r o = grind (arith, nat_tests)
 
 -- ---- the date
 
@@ -76,9 +69,8 @@ unfolding tags_right has_size
 date_size r o =
     let s = section_of r 1 in
     let fs = fields_from s 16 in
-    let a = ((and-eq-true_iff (found_keeps (is_identifier s) (sole (with_tag 2 fs))) _).0 (tags_kept r o)).1 in
-    let b = ((and-eq-true_iff (found_keeps any_field (sole (with_tag 14 fs))) _).0 a).1 in
-    let c = ((and-eq-true_iff (found_keeps (has_size 4) (sole (with_tag 25 fs))) _).0 b).0 in
+    let kept = tags_kept r o in
+    let c : found_keeps (has_size 4) (sole (with_tag 25 fs)) ≡ true = grind (arith, nat_tests, kept) in
     let (f, found, h) = sole_first (has_size 4) (with_tag 25 fs) c in
     let w = found_within 1 25 s 16 f found in
     let four = eqb-true (size_of f) 4 h in
@@ -101,19 +93,17 @@ unfolding tags_right is_identifier
 named r o =
     let s = section_of r 1 in
     let two = with_tag 2 (fields_from s 16) in
-    let first = ((and-eq-true_iff (found_keeps (is_identifier s) (sole two)) _).0 (tags_kept r o)).0 in
+    let kept = tags_kept r o in
+    let first : found_keeps (is_identifier s) (sole two) ≡ true = grind (arith, nat_tests, kept) in
     let (f, found, h) = sole_first (is_identifier s) two first in
-    let a = (and-eq-true_iff (leb 2 (size_of f)) _).0 h in
-    let b = (and-eq-true_iff (leb (size_of f) 64) _).0 a.1 in
-    let c = (and-eq-true_iff (eqb (byte_at s (f.end - 1)) 0) _).0 b.1 in
     record {
       field = f;
       shown = field_shown r 2 f o found;
       within = found_within 1 2 s 16 f found;
-      least = leb-true 2 (size_of f) a.0;
-      most = leb-true (size_of f) 64 b.0;
-      last = eqb-true (byte_at s (f.end - 1)) 0 c.0;
-      others = c.1;
+      least = grind (arith, nat_tests);
+      most = grind (arith, nat_tests);
+      last = grind (arith, nat_tests);
+      others = grind (arith, nat_tests);
     }
 
 module _ (r : List ℕ) (n : Named r) where

@@ -1,18 +1,17 @@
 -- Laws that the proofs of this crate and of those above it cite. Assumes nothing.
 use Prim.Native.Nat.{ℕ, zero, suc, ◌+◌, ◌-◌, ◌≤◌, ◌<◌}
 use mathlib.Core.Path.{◌≡◌, refl, sym, ap, ◌∙◌}
-use mathlib.Core.Bool.{Bool, true, false, not, cond, and-false}
+use mathlib.Core.Bool.{and-false}
 use mathlib.Core.List.{List, [], ◌∷◌}
-use native.Mathlib.Decide.{ℕ_discrete, dec_le}
+use native.Mathlib.Decide.{ℕ_discrete}
 use native.Mathlib.Omega.{arith}
+use Rattle.std.proofs.lemmas.Bool.Decides.{nat_tests}
 use lib.ListN.{length}
 use borrow.Author.Tests.{lt-leb, eq-eqb, ne_eqb}
-use Rattle.std.specs.Prelude.{Option, Some, None, is_some}
-use Rattle.std.specs.Bool.{then_some}
+use Rattle.std.specs.Prelude.{Option, Some, None}
 use Rattle.wire.specs.Numbers.{number_at}
 use Rattle.wire.proofs.Laws.{unlike}
 use Rattle.header.specs.declared.Field.{Field}
-use Rattle.header.specs.Header.{sole}
 use Rattle.header.specs.Fields.{is_field, field_at, step_at, onward, walk, fields_from, fields_end, with_tag, occurring}
 
 -- a field whose bytes start three behind a place and end within the list
@@ -39,15 +38,7 @@ step_past s at h = simp (lt-leb (at + 3 + number_at 2 s (at + 1)) (length s) h, 
 -- so what it shows is whole
 pub step_found : (s : List ℕ) (at : ℕ) (f : Field) → step_at s at ≡ Some f → Whole s at f
 unfolding step_at field_at
-step_found s at f h = go (dec_le (at + 3 + number_at 2 s (at + 1)) (length s))
-  where
-    same : (b : Bool) → cond b (Some (field_at s at)) None ≡ Some f → field_at s at ≡ f
-    same true h = cc
-    same false h = no_field h
-
-    go : Dec (at + 3 + number_at 2 s (at + 1) ≤ length s) → Whole s at f
-    go (yes fits) = rw (← same (is_field s at) h) (omega arith)
-    go (no past) = no_field (sym (step_past s at (omega arith)) ∙ h)
+step_found s at f h = grind (arith, nat_tests, step_past)
 
 -- walks that agree behind the field that a step shows agree
 onward_same : (l m : ℕ → List Field) (r : Option Field) → ((f : Field) → r ≡ Some f → l f.end ≡ m f.end) → onward l r ≡ onward m r
@@ -160,26 +151,6 @@ first_found t s at f h = go (with_tag_from t s at)
     go (none e) = no_field (rw e at h)
     go (first g w e) = let q = rw e at h in let same : g ≡ f = cc in rw same at e
 
--- where a search behind the first finds none, the first is the only one
-pub sole_first : (t : ℕ) (s : List ℕ) (at : ℕ) (f : Field) (r : Option Field) (b : Bool)
-    → occurring 1 (with_tag t (fields_from s at)) ≡ Some f → r ≡ occurring 1 (with_tag t (fields_from s f.end)) → is_some r ≡ not b
-    → then_some b f ≡ sole (with_tag t (fields_from s at))
-unfolding sole
-sole_first t s at f r b h e k = go r e k
-  where
-    go : (r : Option Field) → r ≡ occurring 1 (with_tag t (fields_from s f.end)) → is_some r ≡ not b
-        → then_some b f ≡ sole (with_tag t (fields_from s at))
-    go None e k = rw (first_found t s at f h, first_none (with_tag t (fields_from s f.end)) (sym e)) (both b k)
-      where
-        both : (b : Bool) → false ≡ not b → then_some b f ≡ Some f
-        both true k = refl
-        both false k = cc
-    go (Some g) e k = rw (first_found t s at f h, first_found t s f.end g (sym e)) (both b k)
-      where
-        both : (b : Bool) → true ≡ not b → then_some b f ≡ None
-        both true k = cc
-        both false k = refl
-
 -- of none there is no occurrence
 pub occurring_none : (n : ℕ) → occurring n [] ≡ None
 unfolding occurring
@@ -189,9 +160,7 @@ occurring_none (suc n) = refl
 -- an occurrence behind the first is one of the others, counted without it
 pub occurring_later : (n : ℕ) (f : Field) (l : List Field) → 1 < n → occurring n (f ∷ l) ≡ occurring (n - 1) l
 unfolding occurring
-occurring_later zero f l h = absurd (omega arith)
-occurring_later (suc zero) f l h = absurd (omega arith)
-occurring_later (suc (suc n)) f l h = let e : suc (suc n) - 1 ≡ suc n = omega arith in rw e
+occurring_later n f l h = grind arith
 
 -- a field that is found lies within the list
 pub found_within : (n t : ℕ) (s : List ℕ) (at : ℕ) (f : Field) → occurring n (with_tag t (fields_from s at)) ≡ Some f → Within s at f

@@ -2,17 +2,16 @@
 -- same, sixteen places further on. Assumes nothing.
 use Prim.Native.Nat.{ℕ, zero, suc, ◌+◌, ◌-◌}
 use mathlib.Core.Path.{◌≡◌, refl, ap}
-use mathlib.Core.Bool.{Bool, true, false, not, ◌&&◌, cond, and-eq-true_iff}
+use mathlib.Core.Bool.{Bool, true, not, ◌&&◌, and-eq-true_iff}
 use mathlib.Core.List.{List, [], ◌∷◌, map}
 use native.Mathlib.Nat.{add_assoc}
 use native.Mathlib.Omega.{arith}
-use borrow.Author.Tests.{leb-true, eqb-true, le-leb}
+use Rattle.std.proofs.lemmas.Bool.Decides.{nat_tests}
+use borrow.Author.Tests.{leb-true}
 use lib.Dec.{leb, eqb}
-use lib.ListN.{length}
 use Rattle.std.specs.Prelude.{Option, Some, None}
 use Rattle.wire.specs.Numbers.{byte_at, number_at}
 use Rattle.wire.specs.RuleWords.{all_in, ends_by}
-use Rattle.wire.proofs.Laws.{unlike}
 use Rattle.wire.proofs.Places.{Moved, moved_number, moved_end, each_moved}
 use Rattle.header.specs.declared.Field.{Field}
 use Rattle.header.specs.Fields.{is_field, field_at, step_at, fields_from, fields_end, with_tag, occurring, size_of}
@@ -32,12 +31,7 @@ moved_step None = None
 tag_moved : (t : ℕ) (fs : List Field) → with_tag t (map moved fs) ≡ map moved (with_tag t fs)
 unfolding with_tag
 tag_moved t [] = refl
-tag_moved t (f ∷ fs) = go (eqb f.tag t) (tag_moved t fs)
-  where
-    go : (b : Bool) → with_tag t (map moved fs) ≡ map moved (with_tag t fs)
-        → cond b (moved f ∷ with_tag t (map moved fs)) (with_tag t (map moved fs)) ≡ map moved (cond b (f ∷ with_tag t fs) (with_tag t fs))
-    go true e = ap (λ (l : List Field). moved f ∷ l) e
-    go false e = e
+tag_moved t (f ∷ fs) = grind (arith, nat_tests, tag_moved t fs)
 
 occurring_moved : (n : ℕ) (fs : List Field) → occurring n (map moved fs) ≡ moved_step (occurring n fs)
 unfolding occurring
@@ -79,37 +73,24 @@ module _ {r s : List ℕ} (m : Moved r 16 s) where
   whole_moved : (at : ℕ) → is_field s at ≡ true → is_field r (16 + at) ≡ true
   unfolding is_field
   whole_moved at g =
-      let n = number_at 2 s (at + 1) in
-      let p = (and-eq-true_iff (leb (at + 3) (length s)) (not (eqb (byte_at s at) 255) && leb (at + 3 + n) (length s))).0 g in
-      let q = (and-eq-true_iff (not (eqb (byte_at s at) 255)) (leb (at + 3 + n) (length s))).0 p.1 in
       let e = rw (← add_assoc 16 at 1) at (moved_number m 2 (at + 1)) in
-      let a = le-leb (16 + at + 3) (length r) (omega (arith, m.least, leb-true (at + 3) (length s) p.0)) in
-      let b = le-leb (16 + at + 3 + n) (length r) (omega (arith, m.least, leb-true (at + 3 + n) (length s) q.1)) in
-      rw (m.byte at, e, a, b, q.0)
+      let b = m.byte at in
+      let l = m.least in
+      grind (arith, nat_tests)
 
   -- a step that shows a field shows it there
   step_moved : (at : ℕ) (f : Field) → step_at s at ≡ Some f → step_at r (16 + at) ≡ Some (moved f)
   unfolding step_at
-  step_moved at f g = go (is_field s at) refl g
-    where
-      go : (b : Bool) → is_field s at ≡ b → cond b (Some (field_at s at)) None ≡ Some f
-          → cond (is_field r (16 + at)) (Some (field_at r (16 + at))) None ≡ Some (moved f)
-      go true e g = let same : field_at s at ≡ f = cc in rw (whole_moved at e, field_moved at, same)
-      go false e g = unlike cc
+  step_moved at f g = grind (arith, nat_tests, whole_moved, field_moved)
 
   -- at an end mark there is no field
   step_end : (at : ℕ) → byte_at s at ≡ 255 → step_at r (16 + at) ≡ None
   unfolding step_at is_field
-  step_end at e = rw (m.byte at, e) (go (leb (16 + at + 3) (length r)))
-    where
-      go : (b : Bool) → cond (b && false) (Some (field_at r (16 + at))) None ≡ None
-      go true = refl
-      go false = refl
+  step_end at e = let b = m.byte at in grind (arith, nat_tests)
 
   mark_there : (at : ℕ) → ends_at 0 s at ≡ true → byte_at s at ≡ 255
   unfolding ends_at
-  mark_there at e =
-      eqb-true (byte_at s at) 255 ((and-eq-true_iff (eqb (byte_at s at) 255) (eqb (number_at 2 s (at + 1)) 0 && ends_by 0 s (at + 3))).0 e).0
+  mark_there at e = grind (arith, nat_tests)
 
   -- where the fields from a place on end at an end mark, those behind the header are the same, moved on
   abbrev Same : ℕ → Type 0
@@ -134,11 +115,11 @@ module _ {r s : List ℕ} (m : Moved r 16 s) where
   ends_moved : (at : ℕ) → ends_at 0 s at ≡ true → ends_at 1 r (16 + at) ≡ true
   unfolding ends_at
   ends_moved at g =
-      let p = (and-eq-true_iff (eqb (byte_at s at) 255) (eqb (number_at 2 s (at + 1)) 0 && ends_by 0 s (at + 3))).0 g in
-      let q = (and-eq-true_iff (eqb (number_at 2 s (at + 1)) 0) (ends_by 0 s (at + 3))).0 p.1 in
       let e = rw (← add_assoc 16 at 1) at (moved_number m 2 (at + 1)) in
-      let end = rw (← add_assoc 16 at 3) at (moved_end m (at + 3) q.1) in
-      rw (m.byte at, e, p.0, q.0, end)
+      let b = m.byte at in
+      let last : ends_by 0 s (at + 3) ≡ true = grind (arith, nat_tests) in
+      let end = rw (← add_assoc 16 at 3) at (moved_end m (at + 3) last) in
+      grind (arith, nat_tests)
 
   -- the tags' rules
   identifier_moved : (f : Field) → is_identifier s f ≡ true → is_identifier r (moved f) ≡ true
@@ -164,31 +145,29 @@ module _ {r s : List ℕ} (m : Moved r 16 s) where
   tags_moved : (fs : List Field) → tags_right s fs ≡ true → tags_right r (map moved fs) ≡ true
   unfolding tags_right
   tags_moved fs g =
-      let two = found_keeps (is_identifier s) (sole (with_tag 2 fs)) in
-      let fourteen = found_keeps any_field (sole (with_tag 14 fs)) in
-      let five = found_keeps (has_size 4) (sole (with_tag 25 fs)) in
-      let six = found_keeps (has_size 3) (sole (with_tag 26 fs)) in
-      let p = (and-eq-true_iff two (fourteen && (five && six))).0 g in
-      let q = (and-eq-true_iff fourteen (five && six)).0 p.1 in
-      let w = (and-eq-true_iff five six).0 q.1 in
-      let a = found_keeps_moved (is_identifier s) (is_identifier r) identifier_moved (sole (with_tag 2 fs)) p.0 in
-      let b = found_keeps_moved any_field any_field (λ f e. refl) (sole (with_tag 14 fs)) q.0 in
-      let c = found_keeps_moved (has_size 4) (has_size 4) (size_moved 4) (sole (with_tag 25 fs)) w.0 in
-      let d = found_keeps_moved (has_size 3) (has_size 3) (size_moved 3) (sole (with_tag 26 fs)) w.1 in
+      let two : found_keeps (is_identifier s) (sole (with_tag 2 fs)) ≡ true = grind (arith, nat_tests) in
+      let fourteen : found_keeps any_field (sole (with_tag 14 fs)) ≡ true = grind (arith, nat_tests) in
+      let five : found_keeps (has_size 4) (sole (with_tag 25 fs)) ≡ true = grind (arith, nat_tests) in
+      let six : found_keeps (has_size 3) (sole (with_tag 26 fs)) ≡ true = grind (arith, nat_tests) in
+      let a = found_keeps_moved (is_identifier s) (is_identifier r) identifier_moved (sole (with_tag 2 fs)) two in
+      let b = found_keeps_moved any_field any_field (λ f e. refl) (sole (with_tag 14 fs)) fourteen in
+      let c = found_keeps_moved (has_size 4) (has_size 4) (size_moved 4) (sole (with_tag 25 fs)) five in
+      let d = found_keeps_moved (has_size 3) (has_size 3) (size_moved 3) (sole (with_tag 26 fs)) six in
       simp (tag_moved, sole_moved, a, b, c, d)
 
   -- the rule's two parts
   pub mark_kept : section1_right 0 s 0 ≡ true → ends_at 0 s (fields_end 0 (fields_from s 0)) ≡ true
   unfolding section1_right
-  mark_kept g = ((and-eq-true_iff (ends_at 0 s (fields_end 0 (fields_from s 0))) (tags_right s (fields_from s 0))).0 g).0
+  mark_kept g = grind (arith, nat_tests)
 
   -- data that keep their rule keep it behind a header
   pub section1_moved : section1_right 0 s 0 ≡ true → section1_right 1 r 16 ≡ true
   unfolding section1_right
   section1_moved g =
-      let p = (and-eq-true_iff (ends_at 0 s (fields_end 0 (fields_from s 0))) (tags_right s (fields_from s 0))).0 g in
-      rw (fields_moved p.0, end_moved 0 (fields_from s 0), ends_moved (fields_end 0 (fields_from s 0)) p.0)
-      (tags_moved (fields_from s 0) p.1)
+      let tags : tags_right s (fields_from s 0) ≡ true = grind (arith, nat_tests) in
+      let mark = mark_kept g in
+      rw (fields_moved mark, end_moved 0 (fields_from s 0), ends_moved (fields_end 0 (fields_from s 0)) mark)
+      (tags_moved (fields_from s 0) tags)
 
   -- and each field is there as in the data
   pub occurring_there : section1_right 0 s 0 ≡ true → (n t : ℕ)

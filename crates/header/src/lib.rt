@@ -88,7 +88,7 @@ fn walk_end(s: &[u8], at: usize) -> usize
 }
 
 // The field with a tag, if the tag occurs exactly once.
-#[tactic(auto, using(crate::proofs::Laws::firsts), unfolding(crate::specs::Header::sole))]
+#[tactic(auto, using(crate::proofs::Laws::firsts), unfolding(crate::specs::Header::sole, crate::specs::Fields::occurring))]
 fn sole_named(s: &[u8], at: usize, tag: u8) -> Option<Field>
     ensures { result ≡ sole (with_tag tag (fields_from s.now at)) }
 {
