@@ -4,3 +4,4 @@ pub mod Settling
 pub mod Choices
 pub mod OneLayer
 pub mod Layers
+pub mod Ranges

@@ -26,17 +26,24 @@ module _ (f : ℕ → ℕ) where
   pub least_none : LeastOf f 0 (suc cap)
   least_none = record { low = λ k h. absurd (omega arith); hit = inl refl }
 
-  pub least_new : (m r e : ℕ) → e ≡ f m → e < r → LeastOf f m r → LeastOf f (m + 1) e
+  least_new : (m r e : ℕ) → e ≡ f m → e < r → LeastOf f m r → LeastOf f (m + 1) e
   least_new m r e q l h = record {
     low = below_more _ m (λ k hk. omega (arith, h.low k hk)) (omega arith);
     hit = inr (m, omega arith, sym q);
   }
 
-  pub least_old : (m r e : ℕ) → e ≡ f m → r ≤ e → LeastOf f m r → LeastOf f (m + 1) r
+  least_old : (m r e : ℕ) → e ≡ f m → r ≤ e → LeastOf f m r → LeastOf f (m + 1) r
   least_old m r e q l h = record {
     low = below_more _ m h.low (omega arith);
     hit = ⊎_elim inl (λ w. inr (w.0, omega (arith, w.1), w.2)) h.hit;
   }
+
+  pub least_min : (m r e x : ℕ) → e ≡ f m → x ≡ min r e → LeastOf f m r → LeastOf f (m + 1) x
+  least_min m r e x q z h = go (dec_lt e r)
+    where
+      go : Dec (e < r) → LeastOf f (m + 1) x
+      go (yes l) = let s : x ≡ e = omega arith in rw s (least_new m r e q l h)
+      go (no l) = let s : x ≡ r = omega arith in rw s (least_old m r e q (omega arith) h)
 
 -- the sum of a list falls where an element does
 pub total : List ℕ → ℕ

@@ -2,7 +2,8 @@
 // values from there on cost from each table on, and the structure with which the best stream begins.
 #![tactic(auto)]
 
-ghost use Rattle.std.specs.Prelude.{◌≡◌, true, false, List, ◌⊎◌, ℕ, suc, ◌+◌, ◌-◌, ◌*◌, ◌<◌, ◌≤◌, ℤ, length, get_or};
+ghost use Rattle.std.specs.Prelude.{◌≡◌, true, false, List, ◌⊎◌, ℕ, suc, ◌+◌, ◌-◌, ◌*◌, ◌<◌, ◌≤◌, ℤ, length, get_or, IfSome};
+ghost use Rattle.std.specs.Option.{SomeIff};
 ghost use Rattle.bits.specs.InnerRaised.{value_zero, from_zero};
 ghost use Rattle.samples.specs.Differences.{differences};
 ghost use Rattle.tables.specs.declared.Structure.{Structure};
@@ -29,11 +30,7 @@ fn join(bits: usize, a: usize) -> usize
     if TOO_LONG < a {
         return NO_STREAM;
     }
-    let sum = bits + a;
-    if sum < TOO_LONG {
-        return sum;
-    }
-    TOO_LONG
+    (bits + a).min(TOO_LONG)
 }
 
 // How many structures table t has.
@@ -67,13 +64,11 @@ fn smaller(tab: &[u32], t: usize, k: usize, best: usize) -> usize
     requires { Within tab.now t × (k < count_of tab.now t) × Place tab.now t best }
     ensures { Smaller tab.now t k best result }
 {
-    if best == 64 {
-        return k;
+    if best == 64 || rank(tab, t, k) < rank(tab, t, best) {
+        k
+    } else {
+        best
     }
-    if rank(tab, t, k) < rank(tab, t, best) {
-        return k;
-    }
-    best
 }
 
 // A structure's form has a code for the value, 131,072 added.
@@ -81,13 +76,7 @@ fn serves(f: Form, v: usize) -> bool
     ensures { (n : ℕ) (c : Structure) → structure_right n c ≡ true → c.base < 65536 → form_of c ≡ f
         → (result ≡ true → kind_of c (from_zero value_zero v) ≡ gives) × (result ≡ false → kind_of c (from_zero value_zero v) ≡ gives → ⊥) }
 {
-    if f.to != 0 {
-        return false;
-    }
-    if v < f.lo {
-        return false;
-    }
-    v < f.hi
+    f.to == 0 && f.lo <= v && v < f.hi
 }
 
 // Structure k of table t, which serves the value, against the nearest of those before it.
@@ -116,15 +105,11 @@ fn nearest(tab: &[u32], t: usize, v: usize) -> usize
     requires { Within tab.now t }
     ensures { IsNearest tab.now t v result }
 {
-    let m = count(tab, t);
     let mut best = 64;
-    let mut k = 0;
-    while k < m {
-        let f = compiled::form_at(tab, t - 1, k);
-        if serves(f, v) {
+    for k in 0..count(tab, t) {
+        if serves(compiled::form_at(tab, t - 1, k), v) {
             best = nearer(tab, t, k, best);
         }
-        k += 1;
     }
     best
 }
@@ -136,20 +121,25 @@ fn unknown() -> [u8; 2048]
     [255; 2048]
 }
 
-// The structure of table t that is known for the value, without looking for it: 256 places a table, one for each value from -128 to
-// 127. Above 64 where it is not known yet, and for any other value.
-fn recall(t: usize, v: usize, known: &[u8]) -> usize
-    requires { (1 ≤ t) × (t ≤ 8) × (length known.now ≡ 2048) }
-    ensures { (tab : List ℕ) → Known tab known.now → result ≤ 64 → IsNearest tab t v result }
+// Where it is known what structure of table t is a value's: 256 places a table, one for each value from -128 to 127.
+fn place_of(t: usize, v: usize) -> Option<usize>
+    requires { (1 ≤ t) × (t ≤ 8) }
+    ensures { SomeIff result ((130944 ≤ v) × (v < 131200)) ((t - 1) * 256 + (v - 130944)) }
 {
-    if v < 130944 {
-        return 255;
+    if 130944 <= v && v < 131200 {
+        Some((t - 1) * 256 + (v - 130944))
+    } else {
+        None
     }
-    let d = v - 130944;
-    if 256 <= d {
-        return 255;
-    }
-    known[(t - 1) * 256 + d] as usize
+}
+
+// The structure of table t that is known for the value, or 64 for none, without looking for it.
+fn recall(t: usize, v: usize, known: &[u8]) -> Option<usize>
+    requires { (1 ≤ t) × (t ≤ 8) × (length known.now ≡ 2048) }
+    ensures { (tab : List ℕ) → Known tab known.now → IfSome result (λ k. IsNearest tab t v k) }
+{
+    let k = known[place_of(t, v)?];
+    if k <= 64 { Some(usize::from(k)) } else { None }
 }
 
 // The value's structure of table t, looked for, and known from then on if the value is one from -128 to 127. Apart from `recall`, so
@@ -158,15 +148,10 @@ fn learn(tab: &[u32], t: usize, v: usize, known: &mut [u8]) -> usize
     requires { Within tab.now t × Known tab.now known.old }
     ensures { IsNearest tab.now t v result × Known tab.now known.new }
 {
-    if v < 130944 {
-        return nearest(tab, t, v);
-    }
-    let d = v - 130944;
-    if 256 <= d {
-        return nearest(tab, t, v);
-    }
     let k = nearest(tab, t, v);
-    known[(t - 1) * 256 + d] = k as u8;
+    if let Some(place) = place_of(t, v) {
+        known[place] = k as u8;
+    }
     k
 }
 
@@ -196,15 +181,13 @@ fn values(
         × NineCosts result × Known tab.now known.new }
 {
     let mut cur = [NO_STREAM; 9];
-    let mut t = 1;
-    while t <= n {
-        let mut k = recall(t, v, known);
-        if 64 < k {
-            k = learn(tab, t, v, known);
-        }
+    for t in 1..n + 1 {
+        let k = match recall(t, v, known) {
+            Some(k) => k,
+            None => learn(tab, t, v, known),
+        };
         cur[t] = value_cost(tab, t, k, next[t]);
         marks[t - 1] = k as u8;
-        t += 1;
     }
     cur
 }
@@ -218,8 +201,7 @@ fn leap(tab: &[u32], t: usize, k: usize, cur: &[usize; 9]) -> usize
     if f.to == 0 {
         return NO_STREAM;
     }
-    let to = f.to;
-    join(f.prefix + f.remainder, cur[to])
+    join(f.prefix + f.remainder, cur[f.to])
 }
 
 // The least that a switch of table t costs.
@@ -227,15 +209,9 @@ fn relax(tab: &[u32], t: usize, cur: &[usize; 9]) -> usize
     requires { Within tab.now t }
     ensures { LeastOf (leap_of tab.now cur.now t) (count_of tab.now t) result }
 {
-    let m = count(tab, t);
     let mut least = NO_STREAM;
-    let mut k = 0;
-    while k < m {
-        let e = leap(tab, t, k, cur);
-        if e < least {
-            least = e;
-        }
-        k += 1;
+    for k in 0..count(tab, t) {
+        least = least.min(leap(tab, t, k, cur));
     }
     least
 }
@@ -245,10 +221,7 @@ fn following(t: usize, n: usize) -> usize
     requires { (1 ≤ t) × (t ≤ n) × (n ≤ 8) }
     ensures { (((t < n) × (result ≡ t + 1)) ⊎ ((t ≡ n) × (result ≡ 1))) × (1 ≤ result) × (result ≤ n) }
 {
-    if t < n {
-        return t + 1;
-    }
-    1
+    if t < n { t + 1 } else { 1 }
 }
 
 // Switches make costs smaller, in rounds, until n tables in a row do not change. After m rounds every table is settled whose cheapest
@@ -279,15 +252,11 @@ fn choose(tab: &[u32], t: usize, start: usize, cur: &[usize; 9]) -> usize
     requires { Within tab.now t × Place tab.now t start }
     ensures { Picked tab.now cur.now t start (count_of tab.now t) result }
 {
-    let m = count(tab, t);
-    let want = cur[t];
     let mut best = start;
-    let mut k = 0;
-    while k < m {
-        if leap(tab, t, k, cur) == want {
+    for k in 0..count(tab, t) {
+        if leap(tab, t, k, cur) == cur[t] {
             best = smaller(tab, t, k, best);
         }
-        k += 1;
     }
     best
 }
@@ -309,10 +278,8 @@ fn mark(tab: &[u32], n: usize, first: &[usize; 9], cur: &[usize; 9], marks: &mut
     ensures { (t : ℕ) → 1 ≤ t → t ≤ n → PickedFrom tab.now first.now cur.now t
         (get_or marks.old (t - 1) 0) (get_or marks.new (t - 1) 0) }
 {
-    let mut t = 1;
-    while t <= n {
-        marks[t - 1] = pick(tab, t, marks[t - 1] as usize, first, cur) as u8;
-        t += 1;
+    for t in 1..n + 1 {
+        marks[t - 1] = pick(tab, t, usize::from(marks[t - 1]), first, cur) as u8;
     }
 }
 
@@ -321,15 +288,7 @@ fn switches(tab: &[u32], t: usize) -> bool
     requires { Within tab.now t }
     ensures { result ≡ false → (k : ℕ) → k < count_of tab.now t → (form_in tab.now t k).to ≡ 0 }
 {
-    let m = count(tab, t);
-    let mut k = 0;
-    while k < m {
-        if compiled::form_at(tab, t - 1, k).to != 0 {
-            return true;
-        }
-        k += 1;
-    }
-    false
+    (0..count(tab, t)).any(|k| compiled::form_at(tab, t - 1, k).to != 0)
 }
 
 // Whether any of the n tables has a switch.
@@ -337,14 +296,7 @@ fn has_switch(tab: &[u32], n: usize) -> bool
     requires { CompiledCount tab.now n }
     ensures { result ≡ false → NoSwitch tab.now n }
 {
-    let mut t = 1;
-    while t <= n {
-        if switches(tab, t) {
-            return true;
-        }
-        t += 1;
-    }
-    false
+    (1..n + 1).any(|t| switches(tab, t))
 }
 
 // The costs from a value on, from those behind it, and the marks of its n tables. Without switches the value's structures are all.
@@ -379,9 +331,7 @@ fn all_layers(tab: &[u32], n: usize, any: bool, xs: &[i16], order: usize, work: 
 {
     let mut known = unknown();
     let mut next = [0usize; 9];
-    let mut i = xs.len();
-    while 0 < i {
-        i -= 1;
+    for i in (0..xs.len()).rev() {
         let v = samples::value_at(xs, order, i);
         let from = i * n;
         let to = from + n;
@@ -398,14 +348,12 @@ fn one_table(tab: &[u32], xs: &[i16], order: usize, work: &mut [u8]) -> usize
 {
     let mut known = unknown();
     let mut cost = 0usize;
-    let mut i = xs.len();
-    while 0 < i {
-        i -= 1;
+    for i in (0..xs.len()).rev() {
         let v = samples::value_at(xs, order, i);
-        let mut k = recall(1, v, &known);
-        if 64 < k {
-            k = learn(tab, 1, v, &mut known);
-        }
+        let k = match recall(1, v, &known) {
+            Some(k) => k,
+            None => learn(tab, 1, v, &mut known),
+        };
         cost = value_cost(tab, 1, k, cost);
         work[i] = k as u8;
     }
@@ -421,10 +369,7 @@ pub fn plan(tab: &[u32], n: usize, xs: &[i16], order: usize, work: &mut [u8]) ->
         × (length work.new ≡ length work.old) × (result ≤ 524282) }
 {
     let any = has_switch(tab, n);
-    if any {
-        return all_layers(tab, n, any, xs, order, work);
-    }
-    if n == 1 {
+    if n == 1 && !any {
         return one_table(tab, xs, order, work);
     }
     all_layers(tab, n, any, xs, order, work)

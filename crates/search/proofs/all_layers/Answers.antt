@@ -15,8 +15,6 @@ pub loop-i-init : goal.loop-i-init
 loop-i-init c = let a = c.args in
     let vs = differences a.order a.xs.now in
     let long = length_differences a.order a.xs.now in (
-      omega arith,
-      refl,
       (refl, λ t h. omega (arith, get_or-replicate {A = ℕ} 9 t 0 0 h)),
       c.unknown-known.ensures a.tab.now,
       λ tables ready e. (
@@ -25,41 +23,10 @@ loop-i-init c = let a = c.args in
       ),
     )
 
-pub overflow_mul-from : goal.overflow_mul-from
-overflow_mul-from c =
-    let l = c.loop-i in
-    let r = part_room l.i c.args.n (length c.args.xs.now) (length c.args.work.now) (omega arith) l.invariant.0
-    c.requires.2 in
-    omega (arith, l.invariant.1, r)
-
-pub overflow_add-to : goal.overflow_add-to
-overflow_add-to c =
-    let l = c.loop-i in
-    let r = part_room l.i c.args.n (length c.args.xs.now) (length c.args.work.now) (omega arith) l.invariant.0
-    c.requires.2 in
-    omega (arith, l.invariant.1, r)
-
-pub slice_bounds-layer-end : goal.slice_bounds-layer-end
-slice_bounds-layer-end c = omega (arith, c.loop-i.invariant.3.room)
-
-pub slice_bounds-layer-end-in-loop-i : goal.slice_bounds-layer-end-in-loop-i
-slice_bounds-layer-end-in-loop-i c =
-    let l = c.loop-i in
-    let r = part_room l.i c.args.n (length c.args.xs.now) (length c.args.work.now) (omega arith) l.invariant.0
-    c.requires.2 in
-    omega (arith, l.invariant.1, r)
-
-pub layer-next-requires : goal.layer-next-requires
-layer-next-requires c =
-    let l = c.loop-i in
-    let r = part_room l.i c.args.n (length c.args.xs.now) (length c.args.work.now) (omega arith) l.invariant.0
-    c.requires.2 in
-    (c.requires.0, l.invariant.3, simp (length-take, length-drop) (omega (arith, l.invariant.1, r)), c.requires.1)
-
 pub loop-i-preserved : goal.loop-i-preserved
 loop-i-preserved c =
     let l = c.loop-i in
-    let r = part_room l.i c.args.n (length c.args.xs.now) (length c.args.work.now) (omega arith) l.invariant.0
+    let r = part_room l.i c.args.n (length c.args.xs.now) (length c.args.work.now) (omega arith) (omega arith)
     c.requires.2 in
     let a = c.args in
     let y = c.layer-next in
@@ -67,32 +34,27 @@ loop-i-preserved c =
     let vs = differences a.order a.xs.now in
     let from = (l.i - 1) * a.n in
     let work = put_mid from (from + a.n - from) l.work marks in
-    let room : from + a.n ≤ length l.work = omega (arith, l.invariant.1, r) in
+    let room : from + a.n ≤ length l.work = omega (arith, r) in
     let len : length marks ≡ a.n = y.auto.marks ∙ simp (length-take, length-drop) (omega arith) in
     let there : l.i - 1 < length vs = omega (arith, length_differences a.order a.xs.now) in
     let is = c.value_at-v.ensures.0 in
     let new = put_in_lem l.work marks from a.n len room in
     let old = put_out l.work marks from a.n len room in (
-      omega arith,
-      omega (arith, l.invariant.1),
       y.ensures.1,
       y.ensures.2,
       λ tables ready e.
-          let i = l.invariant.4 tables ready e in
+          let i = l.invariant.2 tables ready e in
           let own = y.ensures.0 tables (drop l.i vs) ready e i.0 in (
             step_exact tables vs l.work work marks y.result a.n (l.i - 1) l.i _ e (omega arith) there is own new old i.1,
             step_trail tables vs l.work work marks y.result a.n (l.i - 1) l.i _ e (omega arith) there is own new old i.1,
           ),
     )
 
-pub shape_of-work : goal.shape_of-work
-shape_of-work c = c.loop-i.invariant.1
-
 pub returns : goal.returns
 returns c = let l = c.loop-i in
     let z : l.i ≡ 0 = omega arith in (
       λ tables ready e.
-          let i = l.invariant.4 tables ready e in
+          let i = l.invariant.2 tables ready e in
           record { costs = at l.next; exact = rw z at i.0; total = refl; trail = λ j t h. i.1 j t (omega arith) },
-      l.invariant.2.1 1 (omega arith),
+      l.invariant.0.1 1 (omega arith),
     )

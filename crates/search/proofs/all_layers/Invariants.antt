@@ -1,5 +1,4 @@
 -- From value i on the costs are exact, and the work space has the way.
-use Prim.Native.Nat.{◌≤◌}
 use mathlib.Core.Path.{◌≡◌}
 use mathlib.Core.List.{List}
 use lib.ListN.{length, drop}
@@ -12,9 +11,6 @@ use Rattle.search.specs.InnerSearch.{cap, at, Trail, Known, NineCosts}
 use Rattle.search.proofs.all_layers.Given as goal
 
 abbrev pub invariant-loop-i : goal.invariant-loop-i
-invariant-loop-i l = (l.i ≤ length l.xs) × (length l.work ≡ length l.initial.work) × NineCosts l.next × Known l.tab l.known
+invariant-loop-i l = NineCosts l.next × Known l.tab l.known
     × ((tables : List (List Structure)) → Compiled tables l.tab → length tables ≡ l.n
     → Exact (rule tables) cap (drop l.i (differences l.order l.xs)) (at l.next) × Trail tables (differences l.order l.xs) l.work l.i)
-
-abbrev pub decreases-loop-i : goal.decreases-loop-i
-decreases-loop-i l = l.i

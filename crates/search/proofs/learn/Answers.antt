@@ -9,8 +9,9 @@ overflow_cast-known c = let p = c.requires in
     let k = c.nearest-k in
     omega (arith, place_most p.0.0.1 c.args.t k.result (omega arith) k.ensures.1)
 
-pub returns : goal.returns
-returns c = let p = c.requires in
+pub returns-in-Some : goal.returns-in-Some
+returns-in-Some c = let p = c.requires in
     let a = c.args in
     let k = c.nearest-k in
-    (k.ensures, known_more p.1 a.t a.v k.result (omega arith) (omega arith) (omega arith) k.ensures)
+    let place = c.in-Some.ensures in
+    rw place.1 (k.ensures, known_more p.1 a.t a.v k.result (omega arith) place.0.0 place.0.1 k.ensures)

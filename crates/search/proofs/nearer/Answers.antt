@@ -9,9 +9,6 @@ returns-then-best-eq64 c = let p = c.requires in
     let a = c.args in
     (λ tables x ready e s. served_first ready a.t (p.0.1, p.0.2) a.k a.best x p.1 e s c.if-best-eq64.true, inr p.1)
 
-pub bits_of-b-requires : goal.bits_of-b-requires
-bits_of-b-requires c = let p = c.requires in (p.0, ⊎_elim (λ e. absurd (c.if-best-eq64.false e)) (λ l. l) p.2)
-
 pub returns-then-a-b : goal.returns-then-a-b
 returns-then-a-b c = let p = c.requires in
     let a = c.args in

@@ -13,9 +13,6 @@ use Rattle.search.proofs.Layers.{alone}
 use Rattle.search.proofs.one_table.Given as goal
 
 abbrev pub invariant-loop-i : goal.invariant-loop-i
-invariant-loop-i l = (l.i ≤ length l.xs) × (length l.work ≡ length l.initial.work) × (l.cost ≤ suc cap) × Known l.tab l.known
+invariant-loop-i l = (l.cost ≤ suc cap) × Known l.tab l.known
     × ((tables : List (List Structure)) → Compiled tables l.tab → length tables ≡ 1
     → Exact (rule tables) cap (drop l.i (differences l.order l.xs)) (at (alone l.cost)) × Trail tables (differences l.order l.xs) l.work l.i)
-
-abbrev pub decreases-loop-i : goal.decreases-loop-i
-decreases-loop-i l = l.i

@@ -18,6 +18,3 @@ overflow_mul-result c =
     let p = c.requires in
     let f = fine_there p.0.0.1 c.args.t (p.0.1, p.0.2) c.args.k p.1 in
     rw (c.power.ensures, c.form_at-f.ensures) (omega (arith, rank_small f))
-
-pub returns : goal.returns
-returns c = rw (c.power.ensures, c.form_at-f.ensures)
