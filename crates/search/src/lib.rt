@@ -15,12 +15,19 @@ ghost use Rattle.search.specs.InnerSearch.{CompiledCount, cap, Planned, count_of
 
 use compiled::Form;
 
-// The bits of 65,535 bytes, the most that a stream may have; one more, where costs stop; and a number that says that there is no stream.
+// The bits of 65,535 bytes, the most that a stream may have; one more, where costs stop; and a number that says that there is no
+// stream. These are costs: the search takes the least of them, whether there is a stream or not.
 pub const MOST_BITS: usize = 524280;
 
 pub const TOO_LONG: usize = 524281;
 
 pub const NO_STREAM: usize = 524282;
+
+// No structure. The marks lent for the plan have a byte for each sample and table, and an Option would be made and taken apart for each.
+const NONE: usize = 64;
+
+// Room for what is known of the values from -128 to 127: 256 places for each of up to eight tables, each with a structure or `NONE`.
+const PLACES: usize = 2048;
 
 // The cost of a code of `bits` bits, where what is left costs a.
 fn join(bits: usize, a: usize) -> usize
@@ -64,7 +71,7 @@ fn smaller(tab: &[u32], t: usize, k: usize, best: usize) -> usize
     requires { Within tab.now t × (k < count_of tab.now t) × Place tab.now t best }
     ensures { Smaller tab.now t k best result }
 {
-    if best == 64 || rank(tab, t, k) < rank(tab, t, best) {
+    if best == NONE || rank(tab, t, k) < rank(tab, t, best) {
         k
     } else {
         best
@@ -86,7 +93,7 @@ fn nearer(tab: &[u32], t: usize, k: usize, best: usize) -> usize
         → kind_of (structure_of tables t k) (from_zero value_zero x) ≡ gives → Served tables x t k best → Served tables x t (k + 1) result)
         × Place tab.now t result }
 {
-    if best == 64 {
+    if best == NONE {
         return k;
     }
     let a = bits_of(tab, t, k);
@@ -100,12 +107,12 @@ fn nearer(tab: &[u32], t: usize, k: usize, best: usize) -> usize
     smaller(tab, t, k, best)
 }
 
-// The structure of table t that serves the value, 131,072 added, with the shortest code, and of those the smallest; 64 for none.
+// The structure of table t that serves the value, 131,072 added, with the shortest code, and of those the smallest; or `NONE`.
 fn nearest(tab: &[u32], t: usize, v: usize) -> usize
     requires { Within tab.now t }
     ensures { IsNearest tab.now t v result }
 {
-    let mut best = 64;
+    let mut best = NONE;
     for k in 0..count(tab, t) {
         if serves(compiled::form_at(tab, t - 1, k), v) {
             best = nearer(tab, t, k, best);
@@ -114,14 +121,15 @@ fn nearest(tab: &[u32], t: usize, v: usize) -> usize
     best
 }
 
-// Nothing is known yet of the structures of the values from -128 to 127.
-fn unknown() -> [u8; 2048]
+// Nothing is known yet of the structures of the values from -128 to 127: 255, a byte above every structure and `NONE`.
+fn unknown() -> [u8; PLACES]
     ensures { (tab : List ℕ) → Known tab result }
 {
-    [255; 2048]
+    [255; PLACES]
 }
 
-// Where it is known what structure of table t is a value's: 256 places a table, one for each value from -128 to 127.
+// Where it is known what structure of table t is a value's, if it is one from -128 to 127. By two comparisons: this is asked for every
+// sample and table, and `contains` goes by an order.
 fn place_of(t: usize, v: usize) -> Option<usize>
     requires { (1 ≤ t) × (t ≤ 8) }
     ensures { SomeIff result ((130944 ≤ v) × (v < 131200)) ((t - 1) * 256 + (v - 130944)) }
@@ -133,18 +141,22 @@ fn place_of(t: usize, v: usize) -> Option<usize>
     }
 }
 
-// The structure of table t that is known for the value, or 64 for none, without looking for it.
-fn recall(t: usize, v: usize, known: &[u8]) -> Option<usize>
-    requires { (1 ≤ t) × (t ≤ 8) × (length known.now ≡ 2048) }
+// The structure of table t that is known for the value, or `NONE`, without looking for it.
+fn recall(t: usize, v: usize, known: &[u8; PLACES]) -> Option<usize>
+    requires { (1 ≤ t) × (t ≤ 8) }
     ensures { (tab : List ℕ) → Known tab known.now → IfSome result (λ k. IsNearest tab t v k) }
 {
     let k = known[place_of(t, v)?];
-    if k <= 64 { Some(usize::from(k)) } else { None }
+    if usize::from(k) <= NONE {
+        Some(usize::from(k))
+    } else {
+        None
+    }
 }
 
 // The value's structure of table t, looked for, and known from then on if the value is one from -128 to 127. Apart from `recall`, so
 // that what is done once for a value stays out of the way of what is done for every sample.
-fn learn(tab: &[u32], t: usize, v: usize, known: &mut [u8]) -> usize
+fn learn(tab: &[u32], t: usize, v: usize, known: &mut [u8; PLACES]) -> usize
     requires { Within tab.now t × Known tab.now known.old }
     ensures { IsNearest tab.now t v result × Known tab.now known.new }
 {
@@ -155,12 +167,12 @@ fn learn(tab: &[u32], t: usize, v: usize, known: &mut [u8]) -> usize
     k
 }
 
-// The cost of structure k of table t for the value, where what is left costs a; 64 is none.
+// The cost of structure k of table t for the value, where what is left costs a.
 fn value_cost(tab: &[u32], t: usize, k: usize, a: usize) -> usize
     requires { Within tab.now t × Place tab.now t k }
     ensures { (k ≡ 64 → result ≡ suc cap) × (k < 64 → result ≡ join_of cap (bits_of tab.now t k) a) × (result ≤ suc cap) }
 {
-    if k == 64 {
+    if k == NONE {
         return NO_STREAM;
     }
     join(bits_of(tab, t, k), a)
@@ -172,7 +184,7 @@ fn values(
     n: usize,
     v: usize,
     next: &[usize; 9],
-    known: &mut [u8],
+    known: &mut [u8; PLACES],
     marks: &mut [u8],
 ) -> [usize; 9]
     requires { CompiledCount tab.now n × Known tab.now known.old × (length marks.old ≡ n) }
@@ -269,7 +281,7 @@ fn pick(tab: &[u32], t: usize, near: usize, first: &[usize; 9], cur: &[usize; 9]
     if first[t] == cur[t] {
         return choose(tab, t, near, cur);
     }
-    choose(tab, t, 64, cur)
+    choose(tab, t, NONE, cur)
 }
 
 // Among the marks of the n tables, the value's structures, those of the settled costs.
@@ -306,7 +318,7 @@ fn layer(
     v: usize,
     any: bool,
     next: &[usize; 9],
-    known: &mut [u8],
+    known: &mut [u8; PLACES],
     marks: &mut [u8],
 ) -> [usize; 9]
     requires { CompiledCount tab.now n × Known tab.now known.old × (length marks.old ≡ n) × (any ≡ false → NoSwitch tab.now n) }
@@ -340,7 +352,8 @@ fn all_layers(tab: &[u32], n: usize, any: bool, xs: &[i16], order: usize, work: 
     next[1]
 }
 
-// The search where there is one table, and no switch: each value's structure is its first step, and their bits add up.
+// The search where there is one table, and no switch: each value's structure is its first step, and their bits add up. Apart from
+// `all_layers`, since one cost goes from sample to sample here, and nine there.
 fn one_table(tab: &[u32], xs: &[i16], order: usize, work: &mut [u8]) -> usize
     requires { CompiledCount tab.now 1 × NoSwitch tab.now 1 × (length xs.now ≤ length work.old) }
     ensures { ((tables : List (List Structure)) → Compiled tables tab.now → length tables ≡ 1

@@ -4,15 +4,15 @@ use native.Mathlib.Omega.{arith}
 use Rattle.search.proofs.Served.{served_first, served_shorter, served_longer, served_equal}
 use Rattle.search.proofs.nearer.Goals as goal
 
-pub returns-then-best-eq64 : goal.returns-then-best-eq64
-returns-then-best-eq64 c = let p = c.requires in
+pub returns-then-best-eq-NONE : goal.returns-then-best-eq-NONE
+returns-then-best-eq-NONE c = let p = c.requires in
     let a = c.args in
-    (λ tables x ready e s. served_first ready a.t (p.0.1, p.0.2) a.k a.best x p.1 e s c.if-best-eq64.true, inr p.1)
+    (λ tables x ready e s. served_first ready a.t (p.0.1, p.0.2) a.k a.best x p.1 e s c.if-best-eq-NONE.true, inr p.1)
 
 pub returns-then-a-b : goal.returns-then-a-b
 returns-then-a-b c = let p = c.requires in
     let a = c.args in
-    let n = c.if-best-eq64.false in
+    let n = c.if-best-eq-NONE.false in
     let hb = ⊎_elim (λ e. absurd (n e)) (λ l. l) p.2 in (
       λ tables x ready e s.
           served_shorter ready a.t (p.0.1, p.0.2) a.k a.best x p.1 e s n hb
@@ -23,7 +23,7 @@ returns-then-a-b c = let p = c.requires in
 pub returns-then-b-a : goal.returns-then-b-a
 returns-then-b-a c = let p = c.requires in
     let a = c.args in
-    let n = c.if-best-eq64.false in
+    let n = c.if-best-eq-NONE.false in
     let hb = ⊎_elim (λ e. absurd (n e)) (λ l. l) p.2 in (
       λ tables x ready e s.
           served_longer ready a.t (p.0.1, p.0.2) a.k a.best x p.1 e s n hb
@@ -34,7 +34,7 @@ returns-then-b-a c = let p = c.requires in
 pub returns : goal.returns
 returns c = let p = c.requires in
     let a = c.args in
-    let n = c.if-best-eq64.false in
+    let n = c.if-best-eq-NONE.false in
     let hb = ⊎_elim (λ e. absurd (n e)) (λ l. l) p.2 in
     let one = c.bits_of-a.ensures.0 in
     let two = c.bits_of-b.ensures.0 in (
