@@ -1,25 +1,23 @@
 -- The leads' streams, found a second time and put one behind another from the last back. Assumes nothing.
-use Prim.Native.Nat.{ℕ, zero, suc, ◌+◌, ◌-◌, ◌<◌, ◌≤◌, min}
+use Prim.Native.Nat.{ℕ, zero, suc, ◌+◌, ◌-◌, ◌<◌, ◌≤◌}
 use mathlib.Core.Path.{◌≡◌, refl, sym, ap, ap₂, ◌∙◌}
 use mathlib.Core.Bool.{Bool, true, false, cond}
-use mathlib.Core.List.{List, [], ◌∷◌, ◌++◌, map, append-nil}
+use mathlib.Core.List.{List, [], ◌∷◌, ◌++◌, map}
 use mathlib.Core.Option.{Option, none, some}
 use native.Mathlib.Omega.{arith}
 use borrow.Author.Tests.{leb-true}
 use borrow.Rule.Slice.PartMut.{put_mid}
 use lib.Dec.{leb, eqb}
 use lib.IntN.{ℤ}
-use lib.ListN.{length, get_or, take, drop, drop_of_length-le}
+use lib.ListN.{length, get_or, take, drop}
 use lib.Seq.{drop_at, drop-drop, drop-length, length-take-le}
 use Rattle.packing.specs.Packing.{bytes_for, packed}
 use Rattle.packing.proofs.Laws.{length_packed}
 use Rattle.samples.specs.Differences.{differences}
 use Rattle.shortest.specs.Shortest.{Shortest}
 use Rattle.wire.proofs.Laws.{unlike}
-use Rattle.shortest.proofs.Bridge.{unique}
 use Rattle.layout.specs.Layout.{joined}
 use Rattle.encode.specs.Encoding.{tables_given}
-use Rattle.encode.specs.InnerEncode.{bits_found, Sized}
 use Rattle.encode.proofs.Unique.{found_unique}
 use Rattle.compose.specs.Writing.{total, cut, SearchFindsAll, done, lead, with_stream, packed_all}
 use Rattle.compose.specs.InnerSizes.{size_found, number_with, number_for, SizedAs, StreamOf, StreamsFor}
@@ -63,21 +61,6 @@ known_at s2 order (c ∷ counts) xs (some bs ∷ founds) (lead F all) z (suc k) 
     let w = known_at s2 order counts (drop c xs) founds all (number_zero bs (number_for founds) z).1 k (omega arith) in
     let e : drop (total (take k counts)) (drop c xs) ≡ drop (c + total (take k counts)) xs = drop-drop (total (take k counts)) c xs in
     (w.0, rw e at w.1, w.2, w.3)
-
-module _ (s2 : List ℕ) (order : ℕ) (xs : List ℤ) {size : ℕ} (w : StreamOf s2 order xs size) where
-  -- the search finds it
-  pub bits_sized : (bits : ℕ) → Sized (tables_given s2) (differences order xs) bits → (bits < 524281) × (bytes_for bits ≡ size)
-  bits_sized bits F =
-      let e : F.0 ≡ some w.0 = found_unique (tables_given s2) (differences order xs) F.0 (some w.0) F.1 w.1 in
-      let b : bits ≡ min 524281 (length w.0) = F.2 ∙ ap bits_found e in
-      (omega (arith, b, w.2), omega (arith, b, w.2, w.3))
-
-  -- it fills its part
-  pub put_whole : (part zs bs : List ℕ) → length part ≡ size → Shortest (tables_given s2) (differences order xs) bs
-      → zs ≡ packed bs ++ drop (bytes_for (length bs)) part → zs ≡ packed bs
-  put_whole part zs bs long f put =
-      let one = ap (λ (b : List ℕ). bytes_for (length b)) (unique (tables_given s2) (differences order xs) bs w.0 f w.1) in
-      put ∙ rw (drop_of_length-le part {i = bytes_for (length bs)} (omega (arith, one, w.3)), append-nil (packed bs))
 
 -- ---- one lead more
 

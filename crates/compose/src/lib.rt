@@ -156,22 +156,16 @@ fn size_streams(job: &Job, tab: &[u32], work: &mut [u8], sizes: &mut [u32]) -> R
 }
 
 // One lead's stream, which was sized: it is looked for again, so that its way is in the work space when it is put.
-fn put_lead(
-    section2: &[u8],
-    tab: &[u32],
-    xs: &[i16],
-    order: usize,
-    work: &mut [u8],
-    part: &mut [u8],
-)
-    requires section2_value { (tables_given_right section2.now ≡ true) × CompiledOrNone (tables_given section2.now) tab.now }
-    requires xs_len_bound { (length xs.now ≤ 65536) × (length xs.now * length (tables_given section2.now) ≤ length work.old)
-        × StreamOf section2.now order xs.now (length part.old) }
-    ensures { ((bs : List ℕ) → Shortest (tables_given section2.now) (differences order xs.now) bs
+fn put_lead(job: &Job, tab: &[u32], xs: &[i16], work: &mut [u8], part: &mut [u8])
+    requires section2_value { (tables_given_right job.now.section2.now ≡ true) × CompiledOrNone (tables_given job.now.section2.now) tab.now }
+    requires xs_len_bound { (length xs.now ≤ 65536) × (length xs.now * length (tables_given job.now.section2.now) ≤ length work.old)
+        × StreamOf job.now.section2.now job.now.head.order xs.now (length part.old) }
+    ensures { ((bs : List ℕ) → Shortest (tables_given job.now.section2.now) (differences job.now.head.order xs.now) bs
         → part.new ≡ packed bs)
         × (length tab.now ≡ 0 → work.new ≡ work.old) }
 {
-    let tables = encode::table_count(section2);
+    let order = job.head.order;
+    let tables = encode::table_count(job.section2);
     let bits = encode::stream_bits(tab, tables, xs, order, work);
     encode::put_stream(tab, tables, xs, order, work, bits, part);
 }
@@ -186,7 +180,6 @@ fn put_streams(job: &Job, tab: &[u32], work: &mut [u8], sizes: &[u32], part: &mu
         → part.new ≡ joined streams)
         × (length tab.now ≡ 0 → work.new ≡ work.old) }
 {
-    let order = job.head.order;
     let mut at = job.samples.len();
     let mut from = part.len();
     for k in (0..job.counts.len()).rev() {
@@ -194,14 +187,7 @@ fn put_streams(job: &Job, tab: &[u32], work: &mut [u8], sizes: &[u32], part: &mu
         at -= job.counts[k] as usize;
         let to = from;
         from -= sizes[k] as usize;
-        put_lead(
-            job.section2,
-            tab,
-            &job.samples[at..end],
-            order,
-            work,
-            &mut part[from..to],
-        );
+        put_lead(job, tab, &job.samples[at..end], work, &mut part[from..to]);
     }
 }
 

@@ -20,7 +20,7 @@ use Rattle.bits.proofs.Windows.{bits_before, window_after}
 use Rattle.packing.specs.Packing.{packed}
 use Rattle.packing.proofs.Laws.{length_packed}
 use Rattle.index.specs.declared.IndexEntry.{IndexEntry}
-use Rattle.index.specs.Entry.{Entry, head_bits, head_size, head_number, entry_in, zero_bit, date_right, entry_right, is_entry, none_at, entry_at}
+use Rattle.index.specs.Entry.{Entry, head_bits, head_size, head_number, entry_in, zero_bit, date_right, entry_right, is_entry, entry_at}
 use Rattle.index.specs.InnerSteps.{head_right}
 
 -- the numbers of an entry take five bytes
@@ -131,11 +131,7 @@ entry_kept t h =
     let b = (and-eq-true_iff (eqb (zero_bit t) 0) _).0 a.1 in
     (eqb-true (zero_bit t) 0 b.0, b.1)
 
--- what a step shows where there is no entry, and where there is one
-pub step_none : (s : List ℕ) (at : ℕ) → is_entry (drop at s) ≡ false → none_at at ≡ entry_at s at
-unfolding entry_at
-step_none s at h = rw h
-
+-- what a step shows where there is an entry
 pub step_shown : (s : List ℕ) (at : ℕ) → is_entry (drop at s) ≡ true → let t = drop at s in
     ◌≡◌ {A = IndexEntry} (record {
       more = 1;

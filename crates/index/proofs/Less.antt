@@ -25,11 +25,6 @@ pub less_differ : (x y : ℕ) (a b : List ℕ) → (x ≡ y → ⊥) → less (x
 unfolding less
 less_differ x y a b e = rw (ne_eqb x y e) (or-false (ltb x y))
 
--- of two elements alone the smaller comes first
-pub less_last : (x y : ℕ) → less (x ∷ []) (y ∷ []) ≡ ltb x y
-unfolding less
-less_last x y = simp (and-false, or-false)
-
 -- nothing comes before itself
 less_self : (a : List ℕ) → less a a ≡ false
 unfolding less

@@ -10,6 +10,8 @@ use lib.Dec.{leb, eqb}
 use lib.ListN.{length, take, drop, length-drop}
 use lib.Seq.{drop-drop}
 use borrow.Author.Tests.{leb-true, eqb-true}
+use Rattle.std.specs.Prelude.{Option, Some, None}
+use Rattle.wire.proofs.Laws.{unlike}
 use Rattle.index.specs.declared.IndexEntry.{IndexEntry}
 use Rattle.fields.specs.Identifier.{same}
 use Rattle.index.specs.Entry.{Entry, head_size, entry_size, head_number, entry_in, entry_right, is_entry, shown_at, none_at, entry_at}
@@ -81,9 +83,25 @@ pub shown_at_lem : (s : List ℕ) (at : ℕ) (e : IndexEntry) → e ≡ entry_at
 unfolding entry_at
 shown_at_lem s at e is h = rw (is, h) (shown_there s at h)
 
+-- so does what is found at a place
+pub found_shown : (s : List ℕ) (at : ℕ) (e : IndexEntry) → Some e ≡ cond (is_entry (drop at s)) (Some (entry_at s at)) None → Shown s at e
+found_shown s at e h = go (is_entry (drop at s)) refl h
+  where
+    go : (b : Bool) → is_entry (drop at s) ≡ b → Some e ≡ cond b (Some (entry_at s at)) None → Shown s at e
+    go true there is = shown_at_lem s at e (cc) there
+    go false there is = unlike cc
+
 -- where there is none, there are none behind it
 pub none_there : (s : List ℕ) (at : ℕ) → is_entry (drop at s) ≡ false → entries_in (drop at s) ≡ []
 none_there s at h = rw (entries_step (drop at s), h)
+
+pub found_none : (s : List ℕ) (at : ℕ) → ◌≡◌ {A = Option IndexEntry} None (cond (is_entry (drop at s)) (Some (entry_at s at)) None)
+    → entries_in (drop at s) ≡ []
+found_none s at h = go (is_entry (drop at s)) refl h
+  where
+    go : (b : Bool) → is_entry (drop at s) ≡ b → ◌≡◌ {A = Option IndexEntry} None (cond b (Some (entry_at s at)) None) → entries_in (drop at s) ≡ []
+    go true there is = unlike cc
+    go false there is = none_there s at there
 
 -- ---- the entries that keep a rule
 
@@ -105,9 +123,6 @@ pub record Going (rule : Entry → Bool) (s : List ℕ) (from at : ℕ) : Type 0
   pub within : at ≤ length s
 
 module _ (rule : Entry → Bool) (s : List ℕ) where
-  pub going_from : (from : ℕ) → from ≤ length s → Going rule s from from
-  going_from from h = record { place = refl; rest = refl; within = h }
-
   -- an entry that keeps the rule is passed
   pub going_on : (from at : ℕ) (e : IndexEntry) → Going rule s from at → Shown s at e → rule (seen s e) ≡ true → Going rule s from e.next
   unfolding front behind bytes_in
@@ -161,12 +176,7 @@ whole_entry s at w h = go (is_entry (drop at s)) refl
 pub none_past : (s : List ℕ) (at : ℕ) → length s ≤ at → entries_in (drop at s) ≡ []
 none_past s at h = none_there s at (entry_cut (drop at s) (omega (arith, length-drop at s)))
 
--- entries take up all bytes wherever a walk has reached
-pub going_whole : (rule : Entry → Bool) (s : List ℕ) (from at : ℕ) → Going rule s from at → Whole s from → Whole s at
-going_whole rule s from at g w =
-    omega (arith, g.place, w, ap bytes_in g.rest, bytes_split rule (entries_in (drop at s)), bytes_split rule (entries_in (drop from s)))
-
--- so they do behind an entry
+-- and so they do behind it
 pub whole_on : (s : List ℕ) (at : ℕ) (e : IndexEntry) → Whole s at → Shown s at e → Whole s e.next
 unfolding bytes_in
 whole_on s at e w shown = let n = rw shown.entries at w in omega (arith, shown.size)

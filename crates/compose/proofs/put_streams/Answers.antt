@@ -1,12 +1,12 @@
 use Prim.Native.Nat.{◌-◌}
-use mathlib.Core.Path.{◌≡◌, refl, sym, ◌∙◌}
+use mathlib.Core.Path.{refl, sym, ◌∙◌}
 use native.Mathlib.Omega.{arith}
 use native.Mathlib.Nat.{le_trans, le_of_eq, mul-le-mul_right}
 use borrow.Rule.Slice.PartMut.{mid_len}
 use lib.ListN.{length, get_or}
 use Rattle.encode.specs.Encoding.{tables_given}
-use Rattle.compose.proofs.Sizes.{in_longest, room_back, place_back, length_lent, places_start, places_done}
-use Rattle.compose.proofs.Streams.{stream_here, put_none, put_more, put_all}
+use Rattle.compose.proofs.Sizes.{in_longest, room_back, place_back, length_lent, places_start}
+use Rattle.compose.proofs.Streams.{stream_here, put_none, put_more}
 use Rattle.compose.proofs.put_streams.Goals as goal
 
 pub loop-k-init : goal.loop-k-init
@@ -73,12 +73,3 @@ loop-k-preserved c =
           w.ensures.0 l.invariant.2,
       λ z. w.ensures.1 z ∙ l.invariant.3 z,
     )
-
-pub returns : goal.returns
-returns c = let a = c.args in
-    let p = c.requires in
-    let l = c.loop-k in
-    let z : l.k ≡ 0 = omega arith in
-    let y = places_done a.job.now.counts.now l.k l.at (length a.job.now.samples.now) z l.invariant.0 p.sound.0.3 in
-    let x = places_done a.sizes.now l.k l.from (length a.part.now) z l.invariant.1 p.sizes_len.1 in
-    (put_all a.job.now.section2.now a.job.now.head.order a.job.now.counts.now a.job.now.samples.now l.part l.k l.at l.from z y x l.invariant.2, l.invariant.3)

@@ -1,11 +1,11 @@
 use Prim.Native.Nat.{◌-◌}
-use mathlib.Core.Path.{◌≡◌, refl, sym, ◌∙◌}
+use mathlib.Core.Path.{refl, sym, ◌∙◌}
 use native.Mathlib.Omega.{arith}
 use lib.ListN.{length}
 use native.Mathlib.Nat.{mul-le-mul_right}
 use Rattle.encode.specs.Encoding.{tables_given}
 use Rattle.compose.proofs.Sizes.{in_longest, room_back, place_back, length_lent, sized_none, sized_more}
-use Rattle.compose.proofs.Sizes.{sized_all, places_start, places_done}
+use Rattle.compose.proofs.Sizes.{places_start}
 use Rattle.compose.proofs.size_streams.Goals as goal
 
 pub loop-k-init : goal.loop-k-init
@@ -52,14 +52,4 @@ loop-k-preserved c =
           a.job.now.head.order a.job.now.samples.now l.most s.result l.sizes (omega (arith, l.auto.sizes)) l.invariant.1
           (s.ensures.0 _ p.sound.1 (sym n.ensures.0)).0),
       λ z. s.ensures.1 z ∙ l.invariant.2 z,
-    )
-
-pub returns : goal.returns
-returns c = let a = c.args in
-    let p = c.requires in
-    let l = c.loop-k in
-    let z : l.k ≡ 0 = omega arith in (
-      rw c.judge_streams.ensures (sized_all a.job.now.section2.now a.job.now.head.order a.job.now.counts.now a.job.now.samples.now _ l.sizes l.k l.at z
-          (places_done a.job.now.counts.now l.k l.at (length a.job.now.samples.now) z l.invariant.0 p.sound.0.3) l.invariant.1),
-      l.invariant.2,
     )

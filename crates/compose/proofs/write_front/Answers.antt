@@ -19,22 +19,10 @@ place : (count1 count2 leads size1 size2 size3 : ℕ) → size1 ≡ section_leng
     → size3 ≡ section_length (2 + 9 * leads) → 142 + size1 + size2 + size3 ≡ front_size count1 count2 leads
 place count1 count2 leads size1 size2 size3 a b d = omega arith
 
-within : (c : After-size_for-size3) → 142 + c.size_for-size1.result + c.given_size-size2.result + c.size_for-size3.result ≤ length c.args.out.now
-within c =
-    omega (arith, place _ _ _ _ _ _ c.size_for-size1.ensures c.given_size-size2.ensures c.size_for-size3.ensures, c.requires.2)
-
 -- the pointers are written
 pointers : (l w : List ℕ) → 142 ≤ length l → length w ≡ length (take (142 - 6) (drop 6 l))
     → Filled l 6 ([] ++ w) 142 (put_mid 6 (142 - 6) l w) × (length (put_mid 6 (142 - 6) l w) ≡ length l)
 pointers l w h n = next_written w 142 (filled_from l 6 (omega arith), refl) (omega arith) h n
-
-one : (c : After-write_pointers) → let l = c.args.out.now in
-    let w0 = c.write_pointers.new.part in
-    Filled l 6 ([] ++ w0) 142 (put_mid 6 136 l w0) × (length (put_mid 6 136 l w0) ≡ length l)
-one c =
-    pointers c.args.out.now c.write_pointers.new.part
-    (omega (arith, place _ _ _ _ _ _ c.size_for-size1.ensures c.given_size-size2.ensures c.size_for-size3.ensures, c.requires.2))
-    c.write_pointers.auto.part
 
 -- and Sections 1 to 3
 two : (c : After-write_sections) → let l = c.args.out.now in

@@ -18,30 +18,6 @@ sum : (count1 count2 leads at2 given part : ℕ) → 142 + part ≡ front_size c
     → given ≡ section2_size count2 → at2 + given + section_length (2 + 9 * leads) ≡ part
 sum count1 count2 leads at2 given part p a g = omega arith
 
--- Section 1 is written
-one : (c : After-write_section) → let l = c.args.part.now in
-    let at2 = c.size_for-at2.result in
-    let w1 = c.write_section.new.part in
-    Filled l 0 ([] ++ w1) at2 (w1 ++ drop at2 l) × (length (w1 ++ drop at2 l) ≡ length l)
-one c =
-    front_written c.args.part.now c.write_section.new.part c.size_for-at2.result
-    (omega (arith, sum _ _ _ _ _ _ c.requires.2 c.size_for-at2.ensures c.given_size.ensures)) c.write_section.auto.part
-
--- and Section 2, where it is given
-two : (c : After-write_given) → let l = c.args.part.now in
-    let at2 = c.size_for-at2.result in
-    let at3 = at2 + c.given_size.result in
-    let w1 = c.write_section.new.part in
-    let w2 = c.write_given.new.part in
-    Filled l 0 (([] ++ w1) ++ w2) at3 (put_mid at2 (at3 - at2) (w1 ++ drop at2 l) w2)
-    × (length (put_mid at2 (at3 - at2) (w1 ++ drop at2 l) w2) ≡ length l)
-two c =
-    let s = sum _ _ _ _ _ _ c.requires.2 c.size_for-at2.ensures c.given_size.ensures in
-    let at2 = c.size_for-at2.result in
-    next_written c.write_given.new.part (at2 + c.given_size.result)
-    (front_written c.args.part.now c.write_section.new.part at2 (omega (arith, s)) c.write_section.auto.part) (le-add_right _ _)
-    (omega (arith, s)) c.write_given.auto.part
-
 -- and Section 3
 three : (c : After-write_leads) → let l = c.args.part.now in
     let at2 = c.size_for-at2.result in

@@ -1,6 +1,5 @@
 use mathlib.Core.Path.{◌∙◌}
 use native.Mathlib.Omega.{arith}
-use lib.ListN.{length-take, length-drop}
 use Rattle.index.proofs.Walk.{index_whole, index_ordered}
 use Rattle.merging.proofs.Copied.{copied_from, copied_next, copied_end}
 use Rattle.merging.proofs.copy_all.Goals as goal
@@ -9,25 +8,10 @@ pub loop-reached-init : goal.loop-reached-init
 loop-reached-init c = let p = c.requires in
     copied_from _ _ _ c.bytes_fit.ensures c.bytes_fit-2.ensures p.2 (index_whole _ p.0) (index_whole _ p.1) (index_ordered _ p.1)
 
-pub copy_next-reached-requires : goal.copy_next-reached-requires
-copy_next-reached-requires c = let v = c.loop-reached.invariant in
-    (v.whole_a, v.whole_b, omega arith, omega (arith, v.size, c.requires.2))
-
-pub loop-reached-smaller : goal.loop-reached-smaller
-loop-reached-smaller c = let n = c.copy_next-reached.ensures.reached in omega (arith, n.size, n.within)
-
 pub loop-reached-preserved : goal.loop-reached-preserved
 loop-reached-preserved c =
     let e = c.copy_next-reached.ensures in
     copied_next _ _ _ c.bytes_fit.ensures c.bytes_fit-2.ensures c.requires.2 _ _ _ _ _ c.loop-reached.invariant e.reached e.bytes
-
-pub overflow_add-reached : goal.overflow_add-reached
-overflow_add-reached c = let v = c.loop-reached.invariant in omega (arith, v.whole_a, v.whole_b, c.requires.2)
-
-pub put_bytes-requires : goal.put_bytes-requires
-put_bytes-requires c =
-    let v = c.loop-reached.invariant in
-    rw c.part_of.ensures (simp (length-take, length-drop) (omega (arith, v.whole_a, v.whole_b, v.size, c.requires.2)))
 
 pub returns : goal.returns
 returns c =

@@ -2,8 +2,7 @@
 use Prim.Native.Nat.{◌+◌, ◌-◌, ◌≤◌}
 use mathlib.Core.Path.{◌≡◌, ap, ◌∙◌}
 use native.Mathlib.Omega.{arith}
-use lib.ListN.{length, length-append, length-drop}
-use lib.Seq.{length-take-le}
+use lib.ListN.{length}
 use Rattle.wire.proofs.Places.{part_length}
 use Rattle.index.specs.Order.{before}
 use Rattle.index.specs.InnerSteps.{seen}
@@ -43,34 +42,11 @@ first_part c n =
     let k = n.passed in
     (ap length c.part_of.ensures ∙ part_length _ _ _ k.within, omega (arith, k.place))
 
-pub put_bytes-requires : goal.put_bytes-requires
-put_bytes-requires c = let p = c.requires in
-    let n = reached (goal.at.put_bytes-requires c).After-place_for-place (there (goal.at.put_bytes-requires c).After-entry_at-f) in
-    let k = first_part (goal.at.put_bytes-requires c).After-part_of n in
-    omega (arith, k.0, k.1, n.passed.within, p.2, p.3)
-
--- the output stays as long as it was
-long : (c : After-put_bytes) → let a = c.args in
-    a.from.a + a.from.b + length c.part_of.result.now ≤ length a.out.now → length c.put_bytes.new.part ≡ length c.args.out.now
-long c fits =
-    let a = c.args in
-    ap length c.put_bytes.ensures
-    ∙ rw (length-append, length-append, length-take-le (a.from.a + a.from.b) a.out.now (omega (arith, fits)), length-drop) (omega (arith, fits))
-
 -- and the second part is the entry
 second_part : (c : After-part_of-2) → let a = c.args in
     Next a.a.now a.from.a a.b.now a.from.b (record { a = c.place_for-place.result; b = c.entry_at-f.result.next })
     → length c.part_of-2.result.now ≡ c.entry_at-f.result.next - c.args.from.b
 second_part c n = ap length c.part_of-2.ensures ∙ part_length _ _ _ n.within
-
-pub put_bytes-requires-2 : goal.put_bytes-requires-2
-put_bytes-requires-2 c =
-    let places = goal.at.put_bytes-requires-2 c in
-    let p = c.requires in
-    let n = reached places.After-place_for-place (there places.After-entry_at-f) in
-    let k = first_part places.After-part_of n in
-    let fits : c.args.from.a + c.args.from.b + length c.part_of.result.now ≤ length c.args.out.now = omega (arith, k.0, k.1, n.passed.within, p.2, p.3) in
-    omega (arith, second_part places.After-part_of-2 n, n.size, n.within, n.passed.within, p.3, long places.After-put_bytes fits)
 
 pub returns : goal.returns
 returns c =
