@@ -30,7 +30,7 @@ pub fn byte(s: &[u8], i: usize) -> usize
     s.get(i).copied().map_or(0, usize::from)
 }
 
-// The number in two bytes.
+// The number in two bytes. In four it is two of these; with the size as a const parameter callers would read `number::<2>(s, i)`, no plainer.
 pub fn number16(s: &[u8], i: usize) -> usize
     ensures { (result ≡ number_at 2 s.now i) × (result < 65536) }
 {
@@ -66,7 +66,7 @@ pub fn ends_by(s: &[u8], end: usize, spare: usize) -> bool
     end <= s.len() && s.len() <= end + spare
 }
 
-// A number of two bytes is put at a place.
+// A number of two bytes is put at a place; one of four as two of these.
 pub fn put16(out: &mut [u8], at: usize, n: usize)
     requires { at + 2 ≤ length out.old }
     ensures { out.new ≡ take at out.old ++ (bytes_of 2 n ++ drop (at + 2) out.old) }
