@@ -2,11 +2,11 @@
 use Prim.Native.Nat.{ℕ, zero, suc, ◌*◌, ◌≤◌}
 use mathlib.Core.Path.{◌≡◌, refl, sym, ◌∙◌}
 use mathlib.Core.Bool.{true, false, ◌&&◌, cond, and-eq-true_iff}
-use mathlib.Core.List.{List, []}
+use mathlib.Core.List.{List}
 use mathlib.Core.Logic.{⊎_elim}
 use mathlib.Core.Option.{none}
 use native.Mathlib.Omega.{arith}
-use borrow.Author.Tests.{leb-true, eq-eqb, ne_eqb}
+use borrow.Author.Tests.{leb-true, ne_eqb}
 use lib.Dec.{leb, eqb}
 use lib.IntN.{ℤ}
 use lib.ListN.{length, replicate}
@@ -24,34 +24,6 @@ use Rattle.encode.proofs.Found.{refused_coded, refused_next}
 
 -- ---- Section 2 as it is given
 
--- there is none
-module _ (s2 : List ℕ) (h : length s2 ≡ 0) where
-  pub given_none : tables_given_right s2 ≡ true
-  unfolding tables_given_right
-  given_none = rw (eq-eqb (length s2) 0 h)
-
-  pub tables_none : tables_given s2 ≡ []
-  unfolding tables_given
-  tables_none = rw (eq-eqb (length s2) 0 h)
-
--- there is one
-module _ (s2 : List ℕ) (h : length s2 ≡ 0 → ⊥) where
-  pub given_some : tables_given_right s2 ≡ section2_right 0 s2 0
-  unfolding tables_given_right
-  given_some = rw (ne_eqb (length s2) 0 h)
-
-  pub tables_some : tables_given s2 ≡ tables_in s2 0
-  unfolding tables_given
-  tables_some = rw (ne_eqb (length s2) 0 h)
-
-  -- as many numbers as for data of any length
-  pub held_some : held_for 1 ≡ held_for (length s2)
-  held_some = go (length s2) h
-    where
-      go : (n : ℕ) → (n ≡ 0 → ⊥) → held_for 1 ≡ held_for n
-      go zero g = absurd (g refl)
-      go (suc n) g = refl
-
 -- how many tables Section 2's data mean
 pub count_default : (s : List ℕ) → is_default s 0 ≡ true → 1 ≡ length (tables_in s 0)
 unfolding tables_in
@@ -64,7 +36,7 @@ count_own s d right =
 
 -- ---- 17, 7 and 11 for the work space
 
-pub asked_most : (count order : ℕ) → asked_right count order ≡ true → count ≤ 65536
+asked_most : (count order : ℕ) → asked_right count order ≡ true → count ≤ 65536
 unfolding asked_right
 asked_most count order h =
     let a = (and-eq-true_iff (leb 1 count) (leb count 65536 && leb order 2)).0 h in

@@ -236,13 +236,6 @@ fn write_stream(
     Ok(bits as u32)
 }
 
-// All of the lent work space is made zeros.
-pub fn clear(work: &mut [u8])
-    ensures { work.new ≡ replicate (length work.old) 0 }
-{
-    work.fill(0);
-}
-
 // The stream is written by the tables; where there are any, all of the work space is cleared.
 fn encode_by(
     tab: &[u32],
@@ -316,26 +309,6 @@ fn judge_asked(section2: &[u8], count: usize, order: usize, work: usize) -> Resu
     Refusal::Request.unless(asked_right(count, order))?;
     Refusal::CodeTables.unless(given_right(section2))?;
     Refusal::Room.unless(count * table_count(section2) <= work)
-}
-
-// Room of its own for the numbers of the code tables, all of them 0.
-pub fn table_room() -> [u32; compiled::ROOM]
-    ensures { result ≡ replicate room_numbers 0 }
-{
-    [0; compiled::ROOM]
-}
-
-// Section 2's tables are taken apart into the room; answered is how many of its numbers hold them, 0 without Section 2.
-pub fn hold_tables(section2: &[u8], tab: &mut [u32]) -> usize
-    requires { (length tab.old ≡ room_numbers) × (tables_given_right section2.now ≡ true) }
-    ensures { (result ≤ room_numbers) × CompiledOrNone (tables_given section2.now) (take result tab.new)
-        × (result ≡ held_for (length section2.now)) }
-{
-    if section2.is_empty() {
-        return 0;
-    }
-    compiled::compile(section2, 0, 0, tab);
-    compiled::ROOM
 }
 
 // Section 2's tables are taken apart into the room. Answered is the part of it that holds them: all of it, or nothing without Section 2.
