@@ -1,18 +1,15 @@
 -- Differences and traces: what the proofs of this crate and of those above it cite. Assumes nothing.
 use Prim.Native.Nat.{ℕ, zero, suc, ◌+◌, ◌-◌, ◌≤◌, ◌<◌}
 use mathlib.Core.Path.{◌≡◌, refl, sym, ap, ◌∙◌}
-use mathlib.Core.Bool.{◌&&◌}
 use mathlib.Core.List.{List, [], ◌∷◌, ◌++◌, append_assoc}
 use native.Mathlib.Nat.{zero-add, add-zero}
 use native.Mathlib.Omega.{arith}
-use lib.Dec.{ltb, leb}
 use lib.IntN.{ℤ, pos}
 use lib.ListN.{length, get_or}
 use Rattle.std.proofs.lemmas.Int.{ints, to_z-of_z}
 use Rattle.std.proofs.lemmas.Bool.Decides.{nat_tests}
-use Rattle.bits.specs.InnerRaised.{from_zero}
 use Rattle.samples.specs.Differences.{stored_of, sample_of, stored_from, differences}
-use Rattle.samples.specs.Trace.{Trace, rebuilt, fault, fits16, behind}
+use Rattle.samples.specs.Trace.{Trace, rebuilt, fault, behind}
 use Rattle.samples.specs.InnerTrace.{before}
 
 -- samples before those of a trace, and one more
@@ -24,11 +21,6 @@ before_more xs x (fault n) = refl
 pub before_none : (t : Trace) → before [] t ≡ t
 before_none (rebuilt ys) = refl
 before_none (fault n) = refl
-
--- where a whole number held as y fits 16 bits
-pub fits_lower : (much y : ℕ) → 32768 ≤ much → fits16 (from_zero much y) ≡ leb (much - 32768) y && ltb y (much + 32768)
-unfolding from_zero fits16
-fits_lower much y h = grind (arith, ints, nat_tests)
 
 -- the value stored for a sample decodes to that sample
 pub sample_stored : (order place : ℕ) (x last other : ℤ) → sample_of order place (stored_of order place x last other) last other ≡ x

@@ -3,11 +3,10 @@ use Prim.Native.Nat.{ℕ, zero, suc, ◌+◌, ◌-◌, ◌≤◌, ◌<◌}
 use mathlib.Core.Path.{◌≡◌, refl, sym, ap, subst, ◌∙◌}
 use mathlib.Core.Bool.{Bool, true, false, cond}
 use mathlib.Core.List.{List, [], ◌∷◌, ◌++◌, append-nil}
-use mathlib.Core.Logic.{◌⊎◌, inl, inr}
+use mathlib.Core.Logic.{◌⊎◌}
 use native.Mathlib.Nat.{add-zero, sub-zero}
 use native.Mathlib.Numerals.{add-one}
 use native.Mathlib.Omega.{arith}
-use borrow.Author.Tests.{lt-ltb, le-ltb, le-leb, lt-leb}
 use lib.Dec.{leb}
 use lib.IntN.{ℤ, pos}
 use lib.ListN.{length, take, drop, set}
@@ -17,7 +16,7 @@ use Rattle.bits.proofs.Raised.{lower_same}
 use Rattle.samples.specs.Differences.{sample_of}
 use Rattle.samples.specs.Trace.{Trace, rebuilt, fault, fits16, behind, after_sample}
 use Rattle.samples.specs.InnerTrace.{before, trace_of}
-use Rattle.samples.proofs.Laws.{fits_lower, before_none, before_more}
+use Rattle.samples.proofs.Laws.{signs, before_none, before_more}
 use Rattle.tables.specs.declared.Structure.{Structure}
 use Rattle.reading.specs.Reading.{Next, gave, stuck, read_next}
 use Rattle.reading.specs.Compared.{compared_from, compared_of}
@@ -25,16 +24,14 @@ use Rattle.traces.specs.Rebuilding.{after_next, most_left_over, rebuild_from, re
 
 -- ---- one sample
 
--- a sample that is held with 229,376 added
-module _ (y : ℕ) where
-  -- it is of 16 bits
-  fits_within : 196608 ≤ y → y < 262144 → fits16 (from_zero 229376 y) ≡ true
-  fits_within h g = fits_lower 229376 y (omega arith) ∙ rw (le-leb 196608 y h, lt-ltb y 262144 g)
+-- a sample that is held with 229,376 added is of 16 bits, or not
+fits_within : (y : ℕ) → 196608 ≤ y → y < 262144 → fits16 (from_zero 229376 y) ≡ true
+unfolding from_zero fits16
+fits_within y h g = grind (arith, signs)
 
-  -- it is not
-  fits_outside : (y < 196608) ⊎ (262144 ≤ y) → fits16 (from_zero 229376 y) ≡ false
-  fits_outside (inl h) = fits_lower 229376 y (omega arith) ∙ rw (lt-leb 196608 y h)
-  fits_outside (inr h) = fits_lower 229376 y (omega arith) ∙ rw (le-leb 196608 y (omega arith), le-ltb y 262144 h)
+fits_outside : (y : ℕ) → (y < 196608) ⊎ (262144 ≤ y) → fits16 (from_zero 229376 y) ≡ false
+unfolding from_zero fits16
+fits_outside y o = grind (arith, signs)
 
 module _ (tables : List (List Structure)) (order left place : ℕ) (last other : ℤ) (table : ℕ) (bs : List ℕ) where
   -- a value was read, and y holds its sample

@@ -52,9 +52,6 @@ returns-in_err-v-clause-told c tables left held =
     (from_stuck tables a.order left a.place (from_zero 32768 a.last) (from_zero 32768 a.other) a.c.table (drop a.c.at bits)
     (sym (ap (told bits) (none c).0) ∙ c.value.ensures.told tables held))
 
-pub returns-in_err-v-clause-fits : goal.returns-in_err-v-clause-fits
-returns-in_err-v-clause-fits c = rw (none c).1 (omega arith)
-
 pub returns-then-y-lt196608-clause-told : goal.returns-then-y-lt196608-clause-told
 returns-then-y-lt196608-clause-told c tables left held =
     let a = c.args in
