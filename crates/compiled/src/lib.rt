@@ -105,8 +105,8 @@ pub fn form_at(tab: &[u32], t: usize, k: usize) -> Form
 
 // A form is put at place k of table t.
 #[tactic(auto, unfolding(crate::specs::InnerForm::numbers_of))]
-fn put_form(tab: &mut [u32], t: usize, k: usize, f: Form)
-    requires tab_len { (length tab.old ≡ room_numbers) × (t < 8) × (k < 64) }
+fn put_form(tab: &mut [u32; ROOM], t: usize, k: usize, f: Form)
+    requires tab_len { (t < 8) × (k < 64) }
     requires prefix_bound { (f.prefix < 4294967296) × (f.remainder < 4294967296) × (f.to < 4294967296) }
     requires lo_bound { (f.lo < 4294967296) × (f.hi < 4294967296) × (f.word < 4294967296) }
     ensures { tab.new ≡ take (t * table_numbers + 1 + k * 6) tab.old ++
@@ -125,8 +125,8 @@ fn put_form(tab: &mut [u32], t: usize, k: usize, f: Form)
 }
 
 // The n structures from a place of Section 2's data on are put as table t.
-fn put_table(s: &[u8], o: usize, n: usize, tables: usize, tab: &mut [u32], t: usize)
-    requires tab_len { (length tab.old ≡ room_numbers) × (t < 8) × (n ≤ 64) × (o < 8388608) × (tables ≤ 8) }
+fn put_table(s: &[u8], o: usize, n: usize, tables: usize, tab: &mut [u32; ROOM], t: usize)
+    requires tab_len { (t < 8) × (n ≤ 64) × (o < 8388608) × (tables ≤ 8) }
     requires n_value { every (structure_right tables) (structures_at s.now o n) ≡ true }
     ensures { Says (structures_at s.now o n) tab.new t × Beside tab.old tab.new t }
 {
@@ -138,8 +138,7 @@ fn put_table(s: &[u8], o: usize, n: usize, tables: usize, tab: &mut [u32], t: us
 
 // The default table is put as the first. (One function with `put_table` would take a closure that makes the structures, and its
 // contract would say of each what `tables_right` and `default_structure` say: more than the loop that it saves.)
-fn put_default(tab: &mut [u32])
-    requires { length tab.old ≡ room_numbers }
+fn put_default(tab: &mut [u32; ROOM])
     ensures { Says default_table tab.new 0 }
 {
     tab[0] = 19;
@@ -149,8 +148,8 @@ fn put_default(tab: &mut [u32])
 }
 
 // The tables from n on have no structure.
-fn put_none(tab: &mut [u32], n: usize)
-    requires { (length tab.old ≡ room_numbers) × (n ≤ 8) }
+fn put_none(tab: &mut [u32; ROOM], n: usize)
+    requires { (n ≤ 8) }
     ensures { ((t : ℕ) → n ≤ t → t < 8 → Says [] tab.new t)
         × ((i : ℕ) → i < n * table_numbers → get_or tab.new i 0 ≡ get_or tab.old i 0) }
 {
@@ -160,8 +159,8 @@ fn put_none(tab: &mut [u32], n: usize)
 }
 
 // The n tables from a place of Section 2's data on are put as the first n.
-fn put_tables(s: &[u8], o: usize, n: usize, tab: &mut [u32])
-    requires tab_len { (length tab.old ≡ room_numbers) × (n ≤ 8) × (o < 2097152) }
+fn put_tables(s: &[u8], o: usize, n: usize, tab: &mut [u32; ROOM])
+    requires tab_len { (n ≤ 8) × (o < 2097152) }
     requires n_value { every (table_right n) (tables_from s.now o n) ≡ true }
     ensures { (t : ℕ) → t < n → Says (get_or (tables_from s.now o n) t []) tab.new t }
 {
@@ -173,8 +172,8 @@ fn put_tables(s: &[u8], o: usize, n: usize, tab: &mut [u32])
 }
 
 // The tables of Section 2's data, which start at place `at` and were judged to be right, are put as forms.
-fn put_all(s: &[u8], at: usize, spare: usize, tab: &mut [u32])
-    requires { (length tab.old ≡ room_numbers) × (at ≤ 1048576) × (section2_right spare s.now at ≡ true) }
+fn put_all(s: &[u8], at: usize, spare: usize, tab: &mut [u32; ROOM])
+    requires { (at ≤ 1048576) × (section2_right spare s.now at ≡ true) }
     ensures { Compiled (tables_in s.now at) tab.new }
 {
     if tables::is_default(s, at) {
@@ -189,8 +188,8 @@ fn put_all(s: &[u8], at: usize, spare: usize, tab: &mut [u32])
 
 // Structure k of table t is what to try first wherever its prefix begins the first eight bits, unless it is longer than these. The
 // number put is its place, and 64 times its prefix's length.
-fn put_guess(tab: &mut [u32], t: usize, k: usize)
-    requires { (length tab.old ≡ room_numbers) × (t < 8) × (k < 64) }
+fn put_guess(tab: &mut [u32; ROOM], t: usize, k: usize)
+    requires { (t < 8) × (k < 64) }
     ensures { SameTables tab.old tab.new }
 {
     let f = form_at(tab, t, k);
@@ -209,8 +208,8 @@ fn put_guess(tab: &mut [u32], t: usize, k: usize)
 }
 
 // Puts the guesses of table t, by its structures.
-fn put_guesses(tab: &mut [u32], t: usize)
-    requires { (length tab.old ≡ room_numbers) × (t < 8) }
+fn put_guesses(tab: &mut [u32; ROOM], t: usize)
+    requires { (t < 8) }
     ensures { SameTables tab.old tab.new }
 {
     let n = tab[t * TABLE].min(64) as usize;
@@ -220,8 +219,8 @@ fn put_guesses(tab: &mut [u32], t: usize)
 }
 
 // The tables of Section 2's data, which start at place `at` and were judged to be right, are put as forms, with what to try first.
-pub fn compile(s: &[u8], at: usize, spare: usize, tab: &mut [u32])
-    requires { (length tab.old ≡ room_numbers) × (at ≤ 1048576) × (section2_right spare s.now at ≡ true) }
+pub fn compile(s: &[u8], at: usize, spare: usize, tab: &mut [u32; ROOM])
+    requires { (at ≤ 1048576) × (section2_right spare s.now at ≡ true) }
     ensures { Compiled (tables_in s.now at) tab.new }
 {
     put_all(s, at, spare, tab);

@@ -3,6 +3,7 @@ use Prim.Native.Nat.{◌+◌}
 use mathlib.Core.Path.{◌≡◌, refl, sym, ◌∙◌}
 use mathlib.Core.List.{[], ◌∷◌}
 use native.Mathlib.Omega.{arith}
+use borrow.Author.Rules.{rules}
 use Rattle.wire.specs.RuleWords.{every}
 use Rattle.tables.specs.Default.{default_table}
 use Rattle.tables.specs.Section2.{tables_from, tables_in}
@@ -18,7 +19,7 @@ returns-then-is_default c =
     rw (sym c.is_default.ensures ∙ c.if-is_default.true)
     (ready (default_table ∷ []) 1 c.put_default.new.tab c.put_none.new.tab refl (omega arith) (omega arith) (rw default_right)
     default_two
-    (c.put_none.auto.tab ∙ c.put_default.auto.tab ∙ c.requires.0)
+    (search rules)
     (λ t h. let z : t ≡ 0 = omega arith in rw z c.put_default.ensures)
     c.put_none.ensures)
 
@@ -28,17 +29,17 @@ own : (c : After-number16-n) →
     RightTables a.s.now a.at
 own c =
     let a = c.args in
-    own_tables a.spare a.s.now a.at c.requires.2 (sym c.is_default.ensures ∙ c.if-is_default.false)
+    own_tables a.spare a.s.now a.at c.requires.1 (sym c.is_default.ensures ∙ c.if-is_default.false)
 
 pub put_tables-requires : goal.put_tables-requires
 put_tables-requires c =
     let r = own (goal.at.put_tables-requires c).After-number16-n in
-    record { tab_len = (c.requires.0, omega (arith, r.most), omega arith); n_value = rw c.number16-n.ensures.0 r.right }
+    record { tab_len = (omega (arith, r.most), omega arith); n_value = rw c.number16-n.ensures.0 r.right }
 
 pub put_none-requires-else-is_default : goal.put_none-requires-else-is_default
 put_none-requires-else-is_default c =
     let r = own (goal.at.put_none-requires-else-is_default c).After-number16-n in
-    (c.put_tables.auto.tab ∙ c.requires.0, omega (arith, r.most, c.number16-n.ensures.0))
+    omega (arith, r.most, c.number16-n.ensures.0)
 
 pub returns-else-is_default : goal.returns-else-is_default
 unfolding tables_in
@@ -54,6 +55,6 @@ returns-else-is_default c =
     (omega (arith, r.most))
     (rw e r.right)
     (tables_two a.s.now (λ i. (c.type_inv.s i).fits) (a.at + 2) n)
-    (c.put_none-else-is_default.auto.tab ∙ c.put_tables.auto.tab ∙ c.requires.0)
+    (search rules)
     c.put_tables.ensures
     c.put_none-else-is_default.ensures)

@@ -1,6 +1,7 @@
 use mathlib.Core.Path.{◌≡◌, refl, sym, ap, ◌∙◌}
 use mathlib.Core.Bool.{true}
 use native.Mathlib.Omega.{arith}
+use borrow.Author.Rules.{rules}
 use lib.Dec.{ltb}
 use lib.ListN.{length}
 use borrow.Author.Tests.{ltb-true}
@@ -47,14 +48,14 @@ form_of-requires c = let f = fine 1 c.default_structure.result (right c) in
 pub put_form-requires : goal.put_form-requires
 put_form-requires c = let fit = form_fine 1 c.default_structure.result (omega arith) (right (goal.at.put_form-requires c).After-default_structure) in
     let room = form_room {f = c.form_of.result} (rw c.form_of.ensures fit) in
-    record { tab_len = (c.loop-k.invariant.room, omega arith, omega arith); prefix_bound = room.0; lo_bound = room.1 }
+    record { tab_len = (omega arith, omega arith); prefix_bound = room.0; lo_bound = room.1 }
 
 pub loop-k-preserved : goal.loop-k-preserved
 loop-k-preserved c =
     let l = c.loop-k in
     upto_turn c.form_of.result c.put_form.new.tab l.invariant (omega arith) (omega (arith, c))
     (c.form_of.ensures ∙ ap form_of c.default_structure.ensures)
-    c.put_form.auto.tab
+    (search rules)
     c.put_form.ensures
 
 pub returns : goal.returns

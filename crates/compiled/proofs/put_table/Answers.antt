@@ -2,6 +2,7 @@ use Prim.Native.Nat.{◌+◌, ◌*◌, ◌<◌}
 use mathlib.Core.Path.{◌≡◌, sym, ap, ◌∙◌}
 use mathlib.Core.Bool.{true}
 use native.Mathlib.Omega.{arith}
+use borrow.Author.Rules.{rules}
 use lib.ListN.{length, get_or}
 use Rattle.wire.specs.Numbers.{number_at}
 use Rattle.tables.specs.declared.Structure.{Structure}
@@ -59,14 +60,14 @@ pub put_form-requires : goal.put_form-requires
 put_form-requires c = let tables = c.args.tables in
     let fit = form_fine tables c.structure_at.result (omega arith) (right (goal.at.put_form-requires c).After-structure_at) in
     let room = form_room {f = c.form_of.result} (rw c.form_of.ensures fit) in
-    record { tab_len = (c.loop-k.invariant.room, omega arith, omega arith); prefix_bound = room.0; lo_bound = room.1 }
+    record { tab_len = (omega arith, omega arith); prefix_bound = room.0; lo_bound = room.1 }
 
 pub loop-k-preserved : goal.loop-k-preserved
 loop-k-preserved c =
     let l = c.loop-k in
     upto_turn c.form_of.result c.put_form.new.tab l.invariant (omega (arith, c)) (omega (arith, c))
     (c.form_of.ensures ∙ ap form_of (next (goal.at.loop-k-preserved c).After-structure_at))
-    c.put_form.auto.tab
+    (search rules)
     c.put_form.ensures
 
 pub returns : goal.returns

@@ -44,7 +44,7 @@ put_table-requires c =
     let r = table_right_lem a.n (table_at a.s.now l.from) (right (goal.at.put_table-requires c).In-loop-t) in
     let n = c.number16.ensures.0 in
     let most = rw (length_structures_at a.s.now (l.from + 2) (number_at 2 a.s.now l.from)) at r.most in
-    record { tab_len = (c.loop-t.auto.tab ∙ c.requires.tab_len.0, omega arith, omega arith, omega arith, omega arith); n_value = rw n r.right }
+    record { tab_len = (omega arith, omega arith, omega arith, omega arith); n_value = rw n r.right }
 
 pub loop-t-preserved : goal.loop-t-preserved
 unfolding table_at
