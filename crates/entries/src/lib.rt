@@ -111,15 +111,10 @@ pub fn stream_bytes(s: &[u8], k: u8) -> u16
 }
 
 // How many bytes the streams before that of lead k have together.
-#[tactic(auto, unfolding(crate::specs::Sections5And6::bytes_before))]
 fn bytes_before(s: &[u8], k: u8) -> usize
     ensures { (result ≡ bytes_before s.now k) × (result ≤ 65535 * k) }
 {
-    let mut sum: usize = 0;
-    for j in 0..k {
-        sum += usize::from(stream_bytes(s, j));
-    }
-    sum
+    (0..k).map(|j| usize::from(stream_bytes(s, j))).sum()
 }
 
 // Where the stream of lead k starts, of n leads.
