@@ -170,10 +170,38 @@ module _ (samples : ℕ) (s : List ℕ) (zones k n : ℕ) (kept : section4_right
       let m : zones - k ≡ suc (zones - (k + 1)) = omega arith in
       rw (m, eq-eqb (qrs_type s k) 0 z, le-leb (zone_begin s k) n g, le-leb n (zone_end s k) l)
 
+-- the beat has the sample that a sample of zone k gets
+pub beat_there : (samples : ℕ) (s : List ℕ) (zones k n : ℕ) → section4_right samples s ≡ true → zones ≡ qrs_count s → k < zones
+    → (qrs_type s k ≡ 0) × (n ≤ zone_end s k) → zone_begin s k ≤ n
+    → (qrs_fiducial s k + 1 ≤ n + fiducial_of s) × (n + fiducial_of s ≤ qrs_fiducial s k + samples)
+beat_there samples s zones k n kept e h z b =
+    let r = zone_here samples s zones k n kept e h z.0 in
+    (omega (arith, r.least), omega (arith, r.most, z.1))
+
 -- the beat's sample of a number
 pub beat_at : (beat : List ℤ) (place : ℕ) → 1 ≤ place → beat_value_at beat place ≡ get_or beat (place - 1) (pos 0)
 unfolding beat_value_at
 beat_at beat place h = let e : place ≡ suc (place - 1) = omega arith in ap (beat_value_at beat) e
+
+-- what sample n gets, from zone k on: nothing where there is no zone
+pub gets_none : (s : List ℕ) (beat : List ℤ) (zones k n : ℕ) → k ≡ zones → beat_value_at beat (beat_place_from s (zones - k) k n) ≡ pos 0
+unfolding beat_value_at
+gets_none s beat zones k n h = rw (place_end s zones k n (omega arith))
+
+-- or before the zone
+pub gets_before : (s : List ℕ) (beat : List ℤ) (zones k n : ℕ) → section4_right (length beat) s ≡ true → zones ≡ qrs_count s → k < zones
+    → (qrs_type s k ≡ 0) × (n ≤ zone_end s k) → n < zone_begin s k → beat_value_at beat (beat_place_from s (zones - k) k n) ≡ pos 0
+unfolding beat_value_at
+gets_before s beat zones k n kept e h z b = rw (place_before (length beat) s zones k n kept e h z.0 b)
+
+-- and in it a sample of the beat
+pub gets_beat : (s : List ℕ) (beat : List ℤ) (zones k n : ℕ) → section4_right (length beat) s ≡ true → zones ≡ qrs_count s → k < zones
+    → (qrs_type s k ≡ 0) × (n ≤ zone_end s k) → zone_begin s k ≤ n
+    → beat_value_at beat (beat_place_from s (zones - k) k n) ≡ get_or beat (n + fiducial_of s - qrs_fiducial s k - 1) (pos 0)
+gets_beat s beat zones k n kept e h z b =
+    let there = beat_there (length beat) s zones k n kept e h z b in
+    let place = n + fiducial_of s - qrs_fiducial s k in
+    rw (place_in (length beat) s zones k n kept e h z.0 b z.1) (beat_at beat place (omega (arith, there.0)))
 
 -- the samples from the i-th on, where its sum with the beat's is z
 module _ (s : List ℕ) (beat : List ℤ) (n : ℕ) (xs : List ℤ) (i : ℕ) (h : i < length xs) (z : ℤ)
