@@ -178,6 +178,10 @@ beat_there samples s zones k n kept e h z b =
     let r = zone_here samples s zones k n kept e h z.0 in
     (omega (arith, r.least), omega (arith, r.most, z.1))
 
+pub beat_inside : (samples : ℕ) (s : List ℕ) (zones k n : ℕ) → section4_right samples s ≡ true → zones ≡ qrs_count s → k < zones
+    → (qrs_type s k ≡ 0) × (n ≤ zone_end s k) → zone_begin s k ≤ n → n + fiducial_of s - qrs_fiducial s k - 1 < samples
+beat_inside samples s zones k n kept e h z b = omega (arith, beat_there samples s zones k n kept e h z b)
+
 -- the beat's sample of a number
 pub beat_at : (beat : List ℤ) (place : ℕ) → 1 ≤ place → beat_value_at beat place ≡ get_or beat (place - 1) (pos 0)
 unfolding beat_value_at

@@ -28,7 +28,7 @@ fn zone_for(s: &[u8], zones: u16, k: u16, n: usize) -> u16
 }
 
 // The value that sample n gets from zone k, the first that reaches it: a sample of the beat, or 0.
-#[tactic(auto, using(crate::proofs::Laws::beat_there, crate::proofs::Laws::gets_none, crate::proofs::Laws::gets_before, crate::proofs::Laws::gets_beat))]
+#[tactic(auto, using(crate::proofs::Laws::beat_there, crate::proofs::Laws::beat_inside, crate::proofs::Laws::gets_none, crate::proofs::Laws::gets_before, crate::proofs::Laws::gets_beat))]
 fn beat_by(s: &[u8], beat: &[i16], zones: u16, k: u16, n: usize) -> i16
     requires { (section4_right (length beat.now) s.now ≡ true) × (zones ≡ qrs_count s.now) × (k ≤ zones) × (n ≤ 8589934592)
         × Reaches s.now zones k n }

@@ -62,13 +62,9 @@ trace_err Index xs = refl
 pub number_some : (e : Refusal) → number_of e ≡ 0 → ⊥
 number_some e h = let z = rw h at (trace_err e []) in unlike cc
 
--- what an answer says of the trace, by whether it refuses
-module _ {T : Type 0} {r : Result T Refusal} (xs : List ℤ) {t : Trace} (told : trace_of (refusal_in r) xs ≡ t) where
-  pub was_ok : {x : T} → r ≡ Ok x → rebuilt xs ≡ t
-  was_ok h = ap (λ (q : Result T Refusal). trace_of (refusal_in q) xs) (sym h) ∙ told
-
-  pub was_err : {e : Refusal} → r ≡ Err e → fault (number_of e) ≡ t
-  was_err {e} h = sym (trace_err e xs) ∙ ap (λ (q : Result T Refusal). trace_of (refusal_in q) xs) (sym h) ∙ told
+-- samples that an answer does not refuse are those of the trace
+pub was_ok : {T : Type 0} {r : Result T Refusal} (xs : List ℤ) {t : Trace} {x : T} → trace_of (refusal_in r) xs ≡ t → r ≡ Ok x → rebuilt xs ≡ t
+was_ok xs told h = ap (λ (q : Result _ Refusal). trace_of (refusal_in q) xs) (sym h) ∙ told
 
 -- ---- a lead's tables and its trace
 
@@ -168,6 +164,19 @@ module _ (r : List ℕ) (place room n : ℕ) (work : List ℤ) (e : n ≡ read_r
       go true = refl
       go false = refl
 
+-- the same, of a refusal by its name
+pub refused_trace : (r : List ℕ) (place room work : ℕ) (e : Refusal) → number_of e ≡ read_refusal r place room work
+    → read_trace r place room work ≡ fault (number_of e)
+refused_trace r place room work e found = read_refused r place room work (number_of e) found (number_some e)
+
+-- and where none applies
+module _ (r : List ℕ) (place room : ℕ) (work : List ℤ) (none : read_refusal r place room (length work) ≡ 0) where
+  pub trace_read : read_trace r place room (length work) ≡ trace_at r (place - 1)
+  trace_read = read_on r place room (length work) 0 (sym none) refl
+
+  pub work_cleared : work_after r place room work ≡ cleared_if (beat_subtracted r) work
+  work_cleared = sym (work_read r place room 0 work (sym none) refl)
+
 -- a lead that none of 1 to 11 refuses can be read
 pub readable : (r : List ℕ) (place room work : ℕ) → read_refusal r place room work ≡ 0
     → (1 ≤ place) × Readable r (place - 1) work × (sample_count_at r (place - 1) ≤ room)
@@ -189,6 +198,16 @@ readable r place room work h =
       beat_room = λ b. leb-true (beat_sample_count r) work (asked (beat_subtracted r) (leb (beat_sample_count r) work) q.1 b);
     } in
     (s.first, whole, leb-true (sample_count_at r k) room q.0)
+
+pub lead_readable : (r : List ℕ) (place room work : ℕ) → read_refusal r place room work ≡ 0 → Readable r (place - 1) work
+lead_readable r place room work h = (readable r place room work h).1
+
+-- the lead at a place from 1 to 32
+pub lead_there : (r : List ℕ) (place room work : ℕ) → read_refusal r place room work ≡ 0
+    → (1 ≤ place) × (place ≤ 32) × (sample_count_at r (place - 1) ≤ 65536) × (sample_count_at r (place - 1) ≤ room)
+lead_there r place room work h =
+    let s = readable r place room work h in
+    (s.0, omega (arith, s.1.place, s.1.leads), s.1.count, s.2)
 
 -- a lead has as many samples as Section 3 says
 residual_length : (r : List ℕ) (k : ℕ) (ys : List ℤ) → residual r k ≡ rebuilt ys → length ys ≡ sample_count_at r k

@@ -80,6 +80,7 @@ impl<'a> Stored<'a> {
     }
 
     // The beat is rebuilt, then the residual in the room, and the beat is added to it.
+    #[tactic(auto, using(crate::proofs::Laws::trace_err, crate::proofs::Laws::beat_fault, crate::proofs::Laws::residual_fault, crate::proofs::Laws::beat_added, crate::proofs::Laws::compared_both, rules::proofs::Laws::beat_kept))]
     fn with_beat(self, room: &mut [i16], beat: &mut [i16]) -> Result<usize, Refusal>
         requires subtracted { beat_subtracted self.rec.now ≡ true }
         requires room_len { (length room.old ≡ sample_count_at self.rec.now self.k) × (length beat.old ≡ beat_sample_count self.rec.now) }
@@ -94,6 +95,7 @@ impl<'a> Stored<'a> {
     }
 
     // Rebuilt in the room. Where a beat was subtracted it is rebuilt in the work space, all of which is then cleared.
+    #[tactic(auto, using(crate::proofs::Laws::without_beat, crate::proofs::Laws::compared_own, crate::proofs::Laws::summed_more, rules::proofs::Laws::interval_there))]
     fn lead_into(self, room: &mut [i16], work: &mut [i16]) -> Result<usize, Refusal>
         requires room_len { length room.old ≡ sample_count_at self.rec.now self.k }
         requires beat_room { beat_subtracted self.rec.now ≡ true → beat_sample_count self.rec.now ≤ length work.old }
@@ -128,6 +130,7 @@ impl<'a> Stored<'a> {
 }
 
 // Lead k is read by the record's tables, in room of its own: small if it is short, since all of the room is cleared first.
+#[tactic(auto, using(crate::proofs::Laws::tables_judged, crate::proofs::Laws::tables_are))]
 fn read_into(rec: &[u8], k: u8, out: &mut [i16], work: &mut [i16]) -> Result<usize, Refusal>
     requires readable { Readable rec.now k (length work.old) }
     requires k_in_bounds { sample_count_at rec.now k ≤ length out.old }
@@ -207,6 +210,7 @@ fn entry_at(rec: &[u8], k: u8) -> Entry
 }
 
 // The lead at a place, from 1, and its samples to the front of the output.
+#[tactic(auto, using(crate::proofs::Laws::lead_readable, crate::proofs::Laws::lead_there, crate::proofs::Laws::refused_trace, crate::proofs::Laws::trace_read, crate::proofs::Laws::work_cleared))]
 fn read(rec: &[u8], place: usize, out: &mut [i16], work: &mut [i16]) -> Result<Lead, Refusal>
     ensures answer { MatchResult result (λ lead. lead ≡ lead_answer rec.now place (length out.old) (length work.old))
         (λ e. fault (number_of e) ≡ read_trace rec.now place (length out.old) (length work.old)) }

@@ -83,3 +83,7 @@ sound_beat r h e =
 -- so that Section 5 has an interval
 pub interval_there : (r : List ℕ) → beat_right r ≡ true → beat_subtracted r ≡ true → 0 < interval_of (section_of r 5)
 interval_there r h e = interval_some (lead_count_of r) (section_of r 5) (sound_beat r h e).0
+
+-- and Section 4 keeps its rule for the beat's samples
+pub beat_kept : (r : List ℕ) → beat_right r ≡ true → beat_subtracted r ≡ true → section4_right (beat_sample_count r) (section_of r 4) ≡ true
+beat_kept r h e = (sound_beat r h e).1
