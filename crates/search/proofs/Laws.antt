@@ -23,7 +23,7 @@ use Rattle.paths.specs.InnerPaths.{leads, join, NotAfter}
 use Rattle.shortest.specs.InnerRule.{kind_of, word_of, structure_of, rule}
 use Rattle.shortest.proofs.Laws.{leads_switch}
 use Rattle.shortest.proofs.Forms.{form_leads, form_length, rank_not_after}
-use Rattle.search.specs.InnerSearch.{cap, count_of, form_in, bits_of, rank_in, Place, at, leap_of}
+use Rattle.search.specs.InnerSearch.{cap, count_of, form_in, bits_of, rank_in, Small, Place, at, leap_of}
 
 module _ {tables : List (List Structure)} {tab : List ℕ} (ready : Compiled tables tab) (t : ℕ) (h : (1 ≤ t) × (t ≤ 8)) where
   pub counted : count_of tab t ≡ length (table_of tables t)
@@ -75,11 +75,16 @@ module _ {tables : List (List Structure)} {tab : List ℕ} (ready : Compiled tab
         rank_not_after (length tables) tables ready.right t j k (omega (arith, counted)) (omega (arith, counted)) v
         (rw (form_there j hj, form_there k hk) l)
 
+-- the forms of a table are small
+pub small_forms : {tables : List (List Structure)} {tab : List ℕ} → Compiled tables tab → (t : ℕ) → (1 ≤ t) × (t ≤ 8) → (k : ℕ)
+    → k < count_of tab t → Small (form_in tab t k)
+small_forms ready t h k hk = let f = fine_there ready t h k hk in (f.most, f.rest, f.to, f.word)
+
 -- a word's place has 32 bits
-pub rank_small : {f : Form} → FineForm f → f.word * 2 ^ (32 - f.prefix) < 4294967296
-rank_small {f} h =
-    let e : f.prefix + (32 - f.prefix) ≡ 32 = omega (arith, h.most) in
-    rw e at (shl_lt f.prefix (32 - f.prefix) h.word)
+pub rank_small : (f : Form) → Small f → f.word * 2 ^ (32 - f.prefix) < 4294967296
+rank_small f h =
+    let e : f.prefix + (32 - f.prefix) ≡ 32 = omega (arith, h.0) in
+    rw e at (shl_lt f.prefix (32 - f.prefix) h.3)
 
 -- what a form costs as a switch
 module _ (tab costs : List ℕ) (t k : ℕ) (f : Form) (e : f ≡ form_in tab t k) where
@@ -90,6 +95,9 @@ module _ (tab costs : List ℕ) (t k : ℕ) (f : Form) (e : f ≡ form_in tab t 
   leap_some n = rw (← e) (rw (ne_eqb f.to 0 n) refl)
 
 -- a structure's number, or 64 for none
+pub place_small : (tab : List ℕ) (t k : ℕ) → count_of tab t ≤ 64 → Place tab t k → k ≤ 64
+place_small tab t k h p = ⊎_elim (λ e. omega arith) (λ l. omega arith) p
+
 pub place_most : {tables : List (List Structure)} {tab : List ℕ} → Compiled tables tab → (t k : ℕ) → (1 ≤ t) × (t ≤ 8) → Place tab t k
     → k ≤ 64
 place_most ready t k h p = ⊎_elim (λ e. omega arith) (λ l. omega (arith, count_most ready t h)) p

@@ -5,7 +5,7 @@ use Rattle.bits.specs.InnerRaised.{value_zero, from_zero}
 use Rattle.tables.specs.declared.Structure.{Structure}
 use Rattle.tables.specs.Section2.{table_of}
 use Rattle.compiled.specs.declared.Form.{Form}
-use Rattle.compiled.specs.InnerForm.{table_numbers, form_at, Compiled, CompiledSome}
+use Rattle.compiled.specs.InnerForm.{table_numbers, form_at, Compiled}
 use Rattle.paths.specs.InnerPaths.{Codes, There, Best, Hop, join, Met, Exact, NoValue, Nearest}
 use Rattle.shortest.specs.InnerRule.{word_of, structure_of, rule}
 
@@ -52,9 +52,9 @@ bits_of tab t k = (form_in tab t k).prefix + (form_in tab t k).remainder
 abbrev pub rank_in : List ℕ → ℕ → ℕ → ℕ
 rank_in tab t k = (form_in tab t k).word * 2 ^ (32 - (form_in tab t k).prefix)
 
--- the numbers say some tables, of which t may be one
-abbrev pub Within : List ℕ → ℕ → Type 0
-Within tab t = CompiledSome tab × (1 ≤ t) × (t ≤ 8)
+-- a form that was put together from a right structure
+abbrev pub Small : Form → Type 0
+Small f = (f.prefix ≤ 32) × (f.remainder ≤ 16) × (f.to ≤ 8) × (f.word < 2 ^ f.prefix)
 
 -- none of the n tables has a switch
 abbrev pub NoSwitch : List ℕ → ℕ → Type 0

@@ -8,10 +8,10 @@ ghost use Rattle.bits.specs.InnerRaised.{value_zero, from_zero};
 ghost use Rattle.samples.specs.Differences.{differences};
 ghost use Rattle.tables.specs.declared.Structure.{Structure};
 ghost use Rattle.tables.specs.Structures.{structure_right};
-ghost use Rattle.compiled.specs.InnerForm.{form_of, Compiled};
+ghost use Rattle.compiled.specs.InnerForm.{room_numbers, form_of, Compiled};
 ghost use Rattle.paths.specs.InnerPaths.{gives, join as join_of, Exact};
 ghost use Rattle.shortest.specs.InnerRule.{kind_of, structure_of, rule};
-ghost use Rattle.search.specs.InnerSearch.{CompiledCount, cap, Planned, count_of, form_in, bits_of, rank_in, Within, NoSwitch, Place, at, leap_of, Served, IsNearest, Known, ValuedTo, LeastOf, Settled, Smaller, Picked, PickedFrom, Layer, NineCosts};
+ghost use Rattle.search.specs.InnerSearch.{CompiledCount, cap, Planned, count_of, form_in, bits_of, rank_in, Small, NoSwitch, Place, at, leap_of, Served, IsNearest, Known, ValuedTo, LeastOf, Settled, Smaller, Picked, PickedFrom, Layer, NineCosts};
 
 use compiled::Form;
 
@@ -40,44 +40,6 @@ fn join(bits: usize, a: usize) -> usize
     (bits + a).min(TOO_LONG)
 }
 
-// How many structures table t has.
-fn count(tab: &[u32], t: usize) -> usize
-    requires { Within tab.now t }
-    ensures { (result ≡ count_of tab.now t) × (result ≤ 64) }
-{
-    tab[(t - 1) * compiled::TABLE] as usize
-}
-
-// The bits of a code of structure k of table t.
-fn bits_of(tab: &[u32], t: usize, k: usize) -> usize
-    requires { Within tab.now t × (k < count_of tab.now t) }
-    ensures { (result ≡ bits_of tab.now t k) × (result ≤ 48) }
-{
-    let f = compiled::form_at(tab, t - 1, k);
-    f.prefix + f.remainder
-}
-
-// The place of a word among those of its table.
-fn rank(tab: &[u32], t: usize, k: usize) -> usize
-    requires { Within tab.now t × (k < count_of tab.now t) }
-    ensures { result ≡ rank_in tab.now t k }
-{
-    let f = compiled::form_at(tab, t - 1, k);
-    f.word * bits::power(32 - f.prefix)
-}
-
-// The structure with the smaller word: k, or `best`, which may be none.
-fn smaller(tab: &[u32], t: usize, k: usize, best: usize) -> usize
-    requires { Within tab.now t × (k < count_of tab.now t) × Place tab.now t best }
-    ensures { Smaller tab.now t k best result }
-{
-    if best == NONE || rank(tab, t, k) < rank(tab, t, best) {
-        k
-    } else {
-        best
-    }
-}
-
 // A structure's form has a code for the value, 131,072 added.
 fn serves(f: Form, v: usize) -> bool
     ensures { (n : ℕ) (c : Structure) → structure_right n c ≡ true → c.base < 65536 → form_of c ≡ f
@@ -86,39 +48,202 @@ fn serves(f: Form, v: usize) -> bool
     f.to == 0 && f.lo <= v && v < f.hi
 }
 
-// Structure k of table t, which serves the value, against the nearest of those before it.
-fn nearer(tab: &[u32], t: usize, k: usize, best: usize) -> usize
-    requires { Within tab.now t × (k < count_of tab.now t) × Place tab.now t best }
-    ensures { ((tables : List (List Structure)) (x : ℕ) → Compiled tables tab.now
-        → kind_of (structure_of tables t k) (from_zero value_zero x) ≡ gives → Served tables x t k best → Served tables x t (k + 1) result)
-        × Place tab.now t result }
-{
-    if best == NONE {
-        return k;
-    }
-    let a = bits_of(tab, t, k);
-    let b = bits_of(tab, t, best);
-    if a < b {
-        return k;
-    }
-    if b < a {
-        return best;
-    }
-    smaller(tab, t, k, best)
+// Table t of the code tables, taken apart: it may be one of eight, and the forms of its structures are small.
+#[derive(Clone, Copy)]
+struct Table<'a> {
+    numbers: &'a [u32],
+    t: usize,
+    ghost room: { length numbers.now ≡ room_numbers },
+    ghost one_of_eight: { (1 ≤ t) × (t ≤ 8) },
+    ghost few: { count_of numbers.now t ≤ 64 },
+    ghost small: { (k : ℕ) → k < count_of numbers.now t → Small (form_in numbers.now t k) },
 }
 
-// The structure of table t that serves the value, 131,072 added, with the shortest code, and of those the smallest; or `NONE`.
-fn nearest(tab: &[u32], t: usize, v: usize) -> usize
-    requires { Within tab.now t }
-    ensures { IsNearest tab.now t v result }
-{
-    let mut best = NONE;
-    for k in 0..count(tab, t) {
-        if serves(compiled::form_at(tab, t - 1, k), v) {
-            best = nearer(tab, t, k, best);
+impl<'a> Table<'a> {
+    // How many structures it has.
+    fn count(self) -> usize
+        ensures { (result ≡ count_of self.entry.numbers.now self.entry.t) × (result ≤ 64) }
+    {
+        self.numbers[(self.t - 1) * compiled::TABLE] as usize
+    }
+
+    // The form of structure k.
+    fn form(self, k: usize) -> Form
+        requires { k < count_of self.numbers.now self.t }
+        ensures { (result ≡ form_in self.entry.numbers.now self.entry.t k) × Small result }
+    {
+        compiled::form_at(self.numbers, self.t - 1, k)
+    }
+
+    // The bits of a code of structure k.
+    fn bits(self, k: usize) -> usize
+        requires { k < count_of self.numbers.now self.t }
+        ensures { (result ≡ bits_of self.entry.numbers.now self.entry.t k) × (result ≤ 48) }
+    {
+        let f = self.form(k);
+        f.prefix + f.remainder
+    }
+
+    // The place of a word among those of the table.
+    fn rank(self, k: usize) -> usize
+        requires { k < count_of self.numbers.now self.t }
+        ensures { result ≡ rank_in self.entry.numbers.now self.entry.t k }
+    {
+        let f = self.form(k);
+        f.word * bits::power(32 - f.prefix)
+    }
+
+    // The structure with the smaller word: k, or `best`, which may be none.
+    fn smaller(self, k: usize, best: usize) -> usize
+        requires { (k < count_of self.numbers.now self.t) × Place self.numbers.now self.t best }
+        ensures { Smaller self.entry.numbers.now self.entry.t k best result }
+    {
+        if best == NONE || self.rank(k) < self.rank(best) {
+            k
+        } else {
+            best
         }
     }
-    best
+
+    // Structure k, which serves the value, against the nearest of those before it.
+    fn nearer(self, k: usize, best: usize) -> usize
+        requires { (k < count_of self.numbers.now self.t) × Place self.numbers.now self.t best }
+        ensures { ((tables : List (List Structure)) (x : ℕ) → Compiled tables self.entry.numbers.now
+            → kind_of (structure_of tables self.entry.t k) (from_zero value_zero x) ≡ gives → Served tables x self.entry.t k best
+            → Served tables x self.entry.t (k + 1) result)
+            × Place self.entry.numbers.now self.entry.t result }
+    {
+        if best == NONE {
+            return k;
+        }
+        let a = self.bits(k);
+        let b = self.bits(best);
+        if a < b {
+            return k;
+        }
+        if b < a {
+            return best;
+        }
+        self.smaller(k, best)
+    }
+
+    // The structure that serves the value, 131,072 added, with the shortest code, and of those the smallest; or `NONE`.
+    fn nearest(self, v: usize) -> usize
+        ensures { IsNearest self.entry.numbers.now self.entry.t v result }
+    {
+        let mut best = NONE;
+        for k in 0..self.count() {
+            if serves(self.form(k), v) {
+                best = self.nearer(k, best);
+            }
+        }
+        best
+    }
+
+    // Where it is known what structure is a value's, if it is one from -128 to 127. By two comparisons: this is asked for every sample
+    // and table, and `contains` goes by an order.
+    fn place_of(self, v: usize) -> Option<usize>
+        ensures { SomeIff result ((130944 ≤ v) × (v < 131200)) ((self.entry.t - 1) * 256 + (v - 130944)) }
+    {
+        if 130944 <= v && v < 131200 {
+            Some((self.t - 1) * 256 + (v - 130944))
+        } else {
+            None
+        }
+    }
+
+    // The structure that is known for the value, or `NONE`, without looking for it.
+    fn recall(self, v: usize, known: &[u8; PLACES]) -> Option<usize>
+        ensures { Known self.entry.numbers.now known.now → IfSome result (λ k. IsNearest self.entry.numbers.now self.entry.t v k) }
+    {
+        let k = known[self.place_of(v)?];
+        if usize::from(k) <= NONE {
+            Some(usize::from(k))
+        } else {
+            None
+        }
+    }
+
+    // The value's structure, looked for, and known from then on if the value is one from -128 to 127. Apart from `recall`, so that what
+    // is done once for a value stays out of the way of what is done for every sample.
+    fn learn(self, v: usize, known: &mut [u8; PLACES]) -> usize
+        requires { Known self.numbers.now known.old }
+        ensures { IsNearest self.entry.numbers.now self.entry.t v result × Known self.entry.numbers.now known.new }
+    {
+        let k = self.nearest(v);
+        if let Some(place) = self.place_of(v) {
+            known[place] = k as u8;
+        }
+        k
+    }
+
+    // The cost of structure k for the value, where what is left costs a.
+    fn value_cost(self, k: usize, a: usize) -> usize
+        requires { Place self.numbers.now self.t k }
+        ensures { (k ≡ 64 → result ≡ suc cap) × (k < 64 → result ≡ join_of cap (bits_of self.entry.numbers.now self.entry.t k) a)
+            × (result ≤ suc cap) }
+    {
+        if k == NONE {
+            return NO_STREAM;
+        }
+        join(self.bits(k), a)
+    }
+
+    // The cost of structure k as a switch.
+    fn leap(self, k: usize, cur: &[usize; 9]) -> usize
+        requires { k < count_of self.numbers.now self.t }
+        ensures { result ≡ leap_of self.entry.numbers.now cur.now self.entry.t k }
+    {
+        let f = self.form(k);
+        if f.to == 0 {
+            return NO_STREAM;
+        }
+        join(f.prefix + f.remainder, cur[f.to])
+    }
+
+    // The least that a switch costs.
+    fn relax(self, cur: &[usize; 9]) -> usize
+        ensures { LeastOf (leap_of self.entry.numbers.now cur.now self.entry.t) (count_of self.entry.numbers.now self.entry.t) result }
+    {
+        let mut least = NO_STREAM;
+        for k in 0..self.count() {
+            least = least.min(self.leap(k, cur));
+        }
+        least
+    }
+
+    // The structure with the smallest word, among `start`, or none, and the switches that cost what the table does.
+    fn choose(self, start: usize, cur: &[usize; 9]) -> usize
+        requires { Place self.numbers.now self.t start }
+        ensures { Picked self.entry.numbers.now cur.now self.entry.t start (count_of self.entry.numbers.now self.entry.t) result }
+    {
+        let mut best = start;
+        for k in 0..self.count() {
+            if self.leap(k, cur) == cur[self.t] {
+                best = self.smaller(k, best);
+            }
+        }
+        best
+    }
+
+    // The structure with which the table's best stream begins, where the value's is `near`.
+    fn pick(self, near: usize, first: &[usize; 9], cur: &[usize; 9]) -> usize
+        requires { Place self.numbers.now self.t near }
+        ensures { PickedFrom self.entry.numbers.now first.now cur.now self.entry.t near result }
+    {
+        if first[self.t] == cur[self.t] {
+            return self.choose(near, cur);
+        }
+        self.choose(NONE, cur)
+    }
+
+    // Whether it has a switch.
+    fn switches(self) -> bool
+        ensures { result ≡ false → (k : ℕ) → k < count_of self.entry.numbers.now self.entry.t
+            → (form_in self.entry.numbers.now self.entry.t k).to ≡ 0 }
+    {
+        (0..self.count()).any(|k| self.form(k).to != 0)
+    }
 }
 
 // Nothing is known yet of the structures of the values from -128 to 127: 255, a byte above every structure and `NONE`.
@@ -126,56 +251,6 @@ fn unknown() -> [u8; PLACES]
     ensures { (tab : List ℕ) → Known tab result }
 {
     [255; PLACES]
-}
-
-// Where it is known what structure of table t is a value's, if it is one from -128 to 127. By two comparisons: this is asked for every
-// sample and table, and `contains` goes by an order.
-fn place_of(t: usize, v: usize) -> Option<usize>
-    requires { (1 ≤ t) × (t ≤ 8) }
-    ensures { SomeIff result ((130944 ≤ v) × (v < 131200)) ((t - 1) * 256 + (v - 130944)) }
-{
-    if 130944 <= v && v < 131200 {
-        Some((t - 1) * 256 + (v - 130944))
-    } else {
-        None
-    }
-}
-
-// The structure of table t that is known for the value, or `NONE`, without looking for it.
-fn recall(t: usize, v: usize, known: &[u8; PLACES]) -> Option<usize>
-    requires { (1 ≤ t) × (t ≤ 8) }
-    ensures { (tab : List ℕ) → Known tab known.now → IfSome result (λ k. IsNearest tab t v k) }
-{
-    let k = known[place_of(t, v)?];
-    if usize::from(k) <= NONE {
-        Some(usize::from(k))
-    } else {
-        None
-    }
-}
-
-// The value's structure of table t, looked for, and known from then on if the value is one from -128 to 127. Apart from `recall`, so
-// that what is done once for a value stays out of the way of what is done for every sample.
-fn learn(tab: &[u32], t: usize, v: usize, known: &mut [u8; PLACES]) -> usize
-    requires { Within tab.now t × Known tab.now known.old }
-    ensures { IsNearest tab.now t v result × Known tab.now known.new }
-{
-    let k = nearest(tab, t, v);
-    if let Some(place) = place_of(t, v) {
-        known[place] = k as u8;
-    }
-    k
-}
-
-// The cost of structure k of table t for the value, where what is left costs a.
-fn value_cost(tab: &[u32], t: usize, k: usize, a: usize) -> usize
-    requires { Within tab.now t × Place tab.now t k }
-    ensures { (k ≡ 64 → result ≡ suc cap) × (k < 64 → result ≡ join_of cap (bits_of tab.now t k) a) × (result ≤ suc cap) }
-{
-    if k == NONE {
-        return NO_STREAM;
-    }
-    join(bits_of(tab, t, k), a)
 }
 
 // The value's structure of each of the n tables goes to the marks; what it costs is given back.
@@ -194,38 +269,15 @@ fn values(
 {
     let mut cur = [NO_STREAM; 9];
     for t in 1..n + 1 {
-        let k = match recall(t, v, known) {
+        let table = Table { numbers: tab, t };
+        let k = match table.recall(v, known) {
             Some(k) => k,
-            None => learn(tab, t, v, known),
+            None => table.learn(v, known),
         };
-        cur[t] = value_cost(tab, t, k, next[t]);
+        cur[t] = table.value_cost(k, next[t]);
         marks[t - 1] = k as u8;
     }
     cur
-}
-
-// The cost of structure k of table t as a switch.
-fn leap(tab: &[u32], t: usize, k: usize, cur: &[usize; 9]) -> usize
-    requires { Within tab.now t × (k < count_of tab.now t) }
-    ensures { result ≡ leap_of tab.now cur.now t k }
-{
-    let f = compiled::form_at(tab, t - 1, k);
-    if f.to == 0 {
-        return NO_STREAM;
-    }
-    join(f.prefix + f.remainder, cur[f.to])
-}
-
-// The least that a switch of table t costs.
-fn relax(tab: &[u32], t: usize, cur: &[usize; 9]) -> usize
-    requires { Within tab.now t }
-    ensures { LeastOf (leap_of tab.now cur.now t) (count_of tab.now t) result }
-{
-    let mut least = NO_STREAM;
-    for k in 0..count(tab, t) {
-        least = least.min(leap(tab, t, k, cur));
-    }
-    least
 }
 
 // The table after t, round the n tables.
@@ -247,7 +299,11 @@ fn settle(tab: &[u32], n: usize, first: [usize; 9]) -> [usize; 9]
     let mut quiet = 0usize;
     while quiet < n {
         let here = t;
-        let r = relax(tab, here, &cur);
+        let r = Table {
+            numbers: tab,
+            t: here,
+        }
+        .relax(&cur);
         t = following(here, n);
         if r < cur[here] {
             cur[here] = r;
@@ -259,31 +315,6 @@ fn settle(tab: &[u32], n: usize, first: [usize; 9]) -> [usize; 9]
     cur
 }
 
-// The structure with the smallest word, among `start` of table t, or none, and the switches that cost what the table does.
-fn choose(tab: &[u32], t: usize, start: usize, cur: &[usize; 9]) -> usize
-    requires { Within tab.now t × Place tab.now t start }
-    ensures { Picked tab.now cur.now t start (count_of tab.now t) result }
-{
-    let mut best = start;
-    for k in 0..count(tab, t) {
-        if leap(tab, t, k, cur) == cur[t] {
-            best = smaller(tab, t, k, best);
-        }
-    }
-    best
-}
-
-// The structure with which table t's best stream begins, where the value's is `near`.
-fn pick(tab: &[u32], t: usize, near: usize, first: &[usize; 9], cur: &[usize; 9]) -> usize
-    requires { Within tab.now t × Place tab.now t near }
-    ensures { PickedFrom tab.now first.now cur.now t near result }
-{
-    if first[t] == cur[t] {
-        return choose(tab, t, near, cur);
-    }
-    choose(tab, t, NONE, cur)
-}
-
 // Among the marks of the n tables, the value's structures, those of the settled costs.
 fn mark(tab: &[u32], n: usize, first: &[usize; 9], cur: &[usize; 9], marks: &mut [u8])
     requires { CompiledCount tab.now n × (length marks.old ≡ n) × ((t : ℕ) → 1 ≤ t → t ≤ n → Place tab.now t (get_or marks.old (t - 1) 0)) }
@@ -291,16 +322,9 @@ fn mark(tab: &[u32], n: usize, first: &[usize; 9], cur: &[usize; 9], marks: &mut
         (get_or marks.old (t - 1) 0) (get_or marks.new (t - 1) 0) }
 {
     for t in 1..n + 1 {
-        marks[t - 1] = pick(tab, t, usize::from(marks[t - 1]), first, cur) as u8;
+        let table = Table { numbers: tab, t };
+        marks[t - 1] = table.pick(usize::from(marks[t - 1]), first, cur) as u8;
     }
-}
-
-// Whether table t has a switch.
-fn switches(tab: &[u32], t: usize) -> bool
-    requires { Within tab.now t }
-    ensures { result ≡ false → (k : ℕ) → k < count_of tab.now t → (form_in tab.now t k).to ≡ 0 }
-{
-    (0..count(tab, t)).any(|k| compiled::form_at(tab, t - 1, k).to != 0)
 }
 
 // Whether any of the n tables has a switch.
@@ -308,7 +332,13 @@ fn has_switch(tab: &[u32], n: usize) -> bool
     requires { CompiledCount tab.now n }
     ensures { result ≡ false → NoSwitch tab.now n }
 {
-    (1..n + 1).any(|t| switches(tab, t))
+    for t in 1..n + 1 {
+        let table = Table { numbers: tab, t };
+        if table.switches() {
+            return true;
+        }
+    }
+    false
 }
 
 // The costs from a value on, from those behind it, and the marks of its n tables. Without switches the value's structures are all.
@@ -359,15 +389,16 @@ fn one_table(tab: &[u32], xs: &[i16], order: usize, work: &mut [u8]) -> usize
     ensures { ((tables : List (List Structure)) → Compiled tables tab.now → length tables ≡ 1
         → Planned tables (differences order xs.now) work.new result) × (result ≤ 524282) }
 {
+    let table = Table { numbers: tab, t: 1 };
     let mut known = unknown();
     let mut cost = 0usize;
     for i in (0..xs.len()).rev() {
         let v = samples::value_at(xs, order, i);
-        let k = match recall(1, v, &known) {
+        let k = match table.recall(v, &known) {
             Some(k) => k,
-            None => learn(tab, 1, v, &mut known),
+            None => table.learn(v, &mut known),
         };
-        cost = value_cost(tab, 1, k, cost);
+        cost = table.value_cost(k, cost);
         work[i] = k as u8;
     }
     cost

@@ -1,3 +1,5 @@
+use Prim.Native.Nat.{◌≤◌}
+use Rattle.search.proofs.Laws.{count_most, small_forms}
 use Prim.Native.Nat.{ℕ, ◌-◌, ◌<◌}
 use mathlib.Core.Path.{subst}
 use mathlib.Core.List.{List, [], ◌∷◌}
@@ -8,7 +10,6 @@ use Rattle.samples.proofs.Laws.{length_differences}
 use Rattle.paths.specs.InnerPaths.{Exact}
 use Rattle.shortest.specs.InnerRule.{rule}
 use Rattle.search.specs.InnerSearch.{cap, at, IsNearest, Known}
-use Rattle.search.proofs.Laws.{place_most}
 use Rattle.search.proofs.Layers.{zeros_exact, step_exact, step_trail, alone, one_layer, set_in, set_out}
 use Rattle.search.proofs.one_table.Goals as goal
 use Rattle.search.proofs.one_table.Goals.{Joined-recall, in-Some, in-None}
@@ -19,7 +20,7 @@ found : (c : Joined-recall) → let a = c.args in
 found c =
     let K = c.loop-i.invariant.1 in
     elim c.match-recall.branch [
-      | in-Some w ↦ rw (w.k-is, w.known-is) (w.in-Some.ensures c.args.tab.now K, K)
+      | in-Some w ↦ rw (w.k-is, w.known-is) (w.in-Some.ensures K, K)
       | in-None w ↦ rw (w.k-is, w.known-is) w.learn-k.ensures
     ]
 
@@ -34,10 +35,6 @@ loop-i-init c = let a = c.args in
         λ j t h g. absurd (omega (arith, long)),
       ),
     )
-
-pub overflow_cast-work : goal.overflow_cast-work
-overflow_cast-work c =
-    omega (arith, place_most c.requires.0.1 1 c.match-recall.k (omega arith) (found (goal.at.overflow_cast-work c).Joined-recall).0.1)
 
 pub loop-i-preserved : goal.loop-i-preserved
 loop-i-preserved c = let p = c.requires in
@@ -65,3 +62,9 @@ loop-i-preserved c = let p = c.requires in
             step_trail tables vs l.work work marks (alone r.result) 1 (l.i - 1) l.i _ e (omega arith) there is own new old i.1,
           ),
     )
+
+pub invariant_of-table : goal.invariant_of-table
+invariant_of-table c =
+    let r = c.requires.0 in
+    let h : (1 ≤ 1) × (1 ≤ 8) = omega (arith, r.1.most, r.2) in
+    record { room = r.1.room; one_of_eight = h; few = count_most r.1 1 h; small = small_forms r.1 1 h }

@@ -1,3 +1,5 @@
+use Prim.Native.Nat.{◌≤◌}
+use Rattle.search.proofs.Laws.{count_most, small_forms}
 use Prim.Native.Nat.{◌<◌}
 use native.Mathlib.Omega.{arith}
 use lib.ListN.{length, length-set}
@@ -24,3 +26,9 @@ loop-quiet-preserved-then-r-cur c = let a = c.args in
       λ tables x vs ready e met.
           met_set ready l.cur l.t r.result x vs (omega arith) room r.ensures (l.invariant.7 tables x vs ready e met),
     )
+
+pub invariant_of-relax : goal.invariant_of-relax
+invariant_of-relax c =
+    let r = c.requires.0 in
+    let h : (1 ≤ c.loop-quiet.t) × (c.loop-quiet.t ≤ 8) = omega (arith, r.1.most, r.2) in
+    record { room = r.1.room; one_of_eight = h; few = count_most r.1 c.loop-quiet.t h; small = small_forms r.1 c.loop-quiet.t h }

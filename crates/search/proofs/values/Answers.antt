@@ -1,8 +1,9 @@
+use Prim.Native.Nat.{◌≤◌}
+use Rattle.search.proofs.Laws.{count_most, small_forms}
 use Prim.Native.Nat.{suc}
 use native.Mathlib.Omega.{arith}
 use lib.ListN.{length-set}
 use Rattle.search.specs.InnerSearch.{cap, IsNearest, Known}
-use Rattle.search.proofs.Laws.{place_most}
 use Rattle.search.proofs.Served.{valued, valued_more, set_most}
 use Rattle.search.proofs.values.Goals as goal
 use Rattle.search.proofs.values.Goals.{Joined-recall, in-Some, in-None}
@@ -13,13 +14,9 @@ found : (c : Joined-recall) → let a = c.args in
 found c =
     let K = c.loop-t.invariant.known in
     elim c.match-recall.branch [
-      | in-Some w ↦ rw (w.k-is, w.known-is) (w.in-Some.ensures c.args.tab.now K, K)
+      | in-Some w ↦ rw (w.k-is, w.known-is) (w.in-Some.ensures K, K)
       | in-None w ↦ rw (w.k-is, w.known-is) w.learn-k.ensures
     ]
-
-pub overflow_cast-marks : goal.overflow_cast-marks
-overflow_cast-marks c = let p = c.requires in
-    omega (arith, place_most p.0.1 c.loop-t.t c.match-recall.k (omega (arith, p.0.1.most, p.0.2)) (found (goal.at.overflow_cast-marks c).Joined-recall).0.1)
 
 pub loop-t-preserved : goal.loop-t-preserved
 loop-t-preserved c = let a = c.args in
@@ -36,3 +33,9 @@ loop-t-preserved c = let a = c.args in
           (valued ready a.next.now a.v l.t k r.result (omega (arith, p.0.1.most, p.0.2)) (K.0.0 tables ready) r.ensures.0 r.ensures.1);
       known = K.1;
     }
+
+pub invariant_of-table : goal.invariant_of-table
+invariant_of-table c =
+    let r = c.requires.0 in
+    let h : (1 ≤ c.loop-t.t) × (c.loop-t.t ≤ 8) = omega (arith, r.1.most, r.2) in
+    record { room = r.1.room; one_of_eight = h; few = count_most r.1 c.loop-t.t h; small = small_forms r.1 c.loop-t.t h }

@@ -1,6 +1,6 @@
 -- With k structures passed the least of theirs is known.
 use Rattle.search.specs.InnerSearch.{leap_of, LeastOf}
-use Rattle.search.proofs.relax.Given as goal
+use Rattle.search.proofs.Table.relax.Given as goal
 
 abbrev pub invariant-loop-k : goal.invariant-loop-k
-invariant-loop-k l = LeastOf (leap_of l.tab l.cur l.t) l.k l.least
+invariant-loop-k l = LeastOf (leap_of l.self.numbers.now l.cur l.self.t) l.k l.least

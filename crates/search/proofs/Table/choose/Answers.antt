@@ -1,8 +1,8 @@
 use mathlib.Core.Path.{sym, ◌∙◌}
 use native.Mathlib.Omega.{arith}
 use Rattle.search.proofs.Choices.{picked_skip, picked_more}
-use Rattle.search.proofs.choose.Goals as goal
-use Rattle.search.proofs.choose.Goals.{then-leap-cur, else-leap-cur}
+use Rattle.search.proofs.Table.choose.Goals as goal
+use Rattle.search.proofs.Table.choose.Goals.{then-leap-cur, else-leap-cur}
 
 pub loop-k-preserved : goal.loop-k-preserved
 loop-k-preserved c =
