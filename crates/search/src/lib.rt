@@ -253,7 +253,8 @@ fn unknown() -> [u8; PLACES]
     [255; PLACES]
 }
 
-// The value's structure of each of the n tables goes to the marks; what it costs is given back.
+// The value's structure of each of the n tables goes to the marks; what it costs is given back. The numbers and n go beside each other,
+// here and below: a struct of the two cannot keep `CompiledCount`, which names the tables, since a ghost field holds a proposition.
 fn values(
     tab: &[u32],
     n: usize,
@@ -327,7 +328,8 @@ fn mark(tab: &[u32], n: usize, first: &[usize; 9], cur: &[usize; 9], marks: &mut
     }
 }
 
-// Whether any of the n tables has a switch.
+// Whether any of the n tables has a switch. A loop, since a closure over the numbers of the tables does not know that they are of one
+// to n.
 fn has_switch(tab: &[u32], n: usize) -> bool
     requires { CompiledCount tab.now n }
     ensures { result ≡ false → NoSwitch tab.now n }
