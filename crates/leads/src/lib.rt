@@ -50,11 +50,6 @@ pub struct Entry {
 // A lead of at most this many samples is read in small room, since all of the room is cleared first.
 const SMALL_ROOM: usize = 8192;
 
-// Room of its own for samples.
-fn room<const N: usize>() -> [i16; N] {
-    [0; N]
-}
-
 // Lead k of a record whose Sections 3 to 6 were judged, and the numbers that hold the record's code tables.
 #[derive(Clone, Copy)]
 struct Stored<'a> {
@@ -122,7 +117,7 @@ impl<'a> Stored<'a> {
         ensures summed { Summed (compared_at self.entry.rec.now self.entry.k) (2 * most_sum) result }
     {
         let n = entries::sample_count(pointers::section_of(self.rec, 3), self.k);
-        let mut room = room::<N>();
+        let mut room = [0; N];
         let compared = self.lead_into(&mut room[..n], work)?;
         out[..n].copy_from_slice(&room[..n]);
         Ok(compared)
