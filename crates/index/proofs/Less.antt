@@ -1,18 +1,20 @@
 -- One list of numbers before another, element by element. Assumes nothing.
-use Prim.Native.Nat.{ℕ}
+use Prim.Native.Nat.{ℕ, suc, min, ◌<◌}
 use mathlib.Core.Path.{◌≡◌, refl, ◌∙◌}
 use mathlib.Core.Bool.{Bool, true, false, cond, ◌&&◌, ◌||◌, or-false, and-false}
 use mathlib.Core.List.{List, [], ◌∷◌}
 use native.Mathlib.Omega.{arith}
 use lib.Dec.{ltb, eqb}
-use borrow.Author.Tests.{le-ltb, eq-eqb, ne_eqb}
+use native.Mathlib.Decide.{dec_lt}
+use lib.ListN.{length, get_or, drop, drop_of_length-le}
+use lib.Seq.{drop-cons}
+use borrow.Author.Tests.{le-ltb, lt-ltb, eq-eqb, ne_eqb}
 use Rattle.std.specs.Prelude.{Option, Some}
 use Rattle.std.proofs.Common.{Ordering, Less, Equal, Greater}
 use Rattle.std.specs.Ordering.{nat_cmp, is_lt, is_some_and, partial_ordering_then}
-use Rattle.std.specs.Cmp.Lexicographic.{slice_partial_cmp}
 use Rattle.fields.specs.Identifier.{same}
 use Rattle.index.specs.declared.Date.{Date}
-use Rattle.index.specs.InnerSteps.{date_in, before_by}
+use Rattle.index.specs.InnerSteps.{date_in}
 use Rattle.index.specs.Order.{less}
 
 -- elements that are equal leave it to those behind them
@@ -40,26 +42,46 @@ decided a b then = less a b || (same a b && then)
 pub decided_alone : (a b d : List ℕ) → decided a b (less d d) ≡ less a b
 decided_alone a b d = rw (less_self d, and-false (same a b)) (or-false (less a b))
 
--- ---- and as std compares them
+-- from a place on, where neither has ended: equal elements leave it to those behind them
+module _ (a b : List ℕ) (i : ℕ) (then : Bool) (h : i < length a) (k : i < length b) where
+  pub decided_turn : get_or a i 0 ≡ get_or b i 0 → decided (drop i a) (drop i b) then ≡ decided (drop (suc i) a) (drop (suc i) b) then
+  unfolding same
+  decided_turn e =
+      rw (
+        drop-cons a i 0 h,
+        drop-cons b i 0 k,
+        less_equal (get_or a i 0) (get_or b i 0) (drop (suc i) a) (drop (suc i) b) e,
+        eq-eqb (get_or a i 0) (get_or b i 0) e,
+      )
 
-abbrev pub by_numbers : List ℕ → List ℕ → Option Ordering
-by_numbers a b = slice_partial_cmp (λ x y. Some (nat_cmp x y)) a b
+  -- and elements that differ decide
+  pub decided_here : (get_or a i 0 ≡ get_or b i 0 → ⊥) → decided (drop i a) (drop i b) then ≡ ltb (get_or a i 0) (get_or b i 0)
+  unfolding same
+  decided_here e =
+      rw (
+        drop-cons a i 0 h,
+        drop-cons b i 0 k,
+        less_differ (get_or a i 0) (get_or b i 0) (drop (suc i) a) (drop (suc i) b) e,
+        ne_eqb (get_or a i 0) (get_or b i 0) e,
+      )
+      (or-false (ltb (get_or a i 0) (get_or b i 0)))
 
--- lists that are compared first, and something else where they are the same
-pub numbers_then : (a b : List ℕ) (o : Option Ordering)
-    → is_some_and is_lt (partial_ordering_then (by_numbers a b) o) ≡ decided a b (is_some_and is_lt o)
-unfolding less same
-numbers_then [] [] o = refl
-numbers_then [] (y ∷ b) o = refl
-numbers_then (x ∷ a) [] o = refl
-numbers_then (x ∷ a) (y ∷ b) o = go (ltb x y) (eqb x y) (numbers_then a b o)
-  where
-    go : (l e : Bool) → is_some_and is_lt (partial_ordering_then (by_numbers a b) o) ≡ decided a b (is_some_and is_lt o)
-        → is_some_and is_lt (partial_ordering_then (partial_ordering_then (Some (cond l Less (cond e Equal Greater))) (by_numbers a b)) o)
-        ≡ (l || (e && less a b)) || ((e && same a b) && is_some_and is_lt o)
-    go true e h = refl
-    go false true h = h
-    go false false h = refl
+-- where one has ended and not the other, the shorter comes first; where both have, they are the same
+module _ (a b : List ℕ) (i : ℕ) (then : Bool) (h : i ≡ min (length a) (length b)) where
+  pub decided_ended : (length a ≡ length b → ⊥) → decided (drop i a) (drop i b) then ≡ ltb (length a) (length b)
+  unfolding less same
+  decided_ended differ = go (dec_lt (length a) (length b))
+    where
+      go : Dec (length a < length b) → decided (drop i a) (drop i b) then ≡ ltb (length a) (length b)
+      go (yes k) = rw (drop_of_length-le a {i = i} (omega arith), drop-cons b i 0 (omega arith), lt-ltb (length a) (length b) k)
+      go (no k) =
+          rw (drop-cons a i 0 (omega (arith, differ)), drop_of_length-le b {i = i} (omega arith), le-ltb (length a) (length b) (omega arith))
+
+  pub decided_same : length a ≡ length b → decided (drop i a) (drop i b) then ≡ then
+  unfolding less same
+  decided_same e = rw (drop_of_length-le a {i = i} (omega arith), drop_of_length-le b {i = i} (omega arith))
+
+-- ---- days, as std compares them
 
 -- the days in the order of their numbers
 abbrev pub by_day : Date → Date → Option Ordering
@@ -82,8 +104,3 @@ days_less d f = go (ltb d.year f.year) (eqb d.year f.year) (ltb d.month f.month)
     go false true false true true ed = refl
     go false true false true false true = refl
     go false true false true false false = refl
-
--- so an identifier with a day comes before another as they are compared in the order of the index
-pub before_less : (a : List ℕ) (d : Date) (b : List ℕ) (f : Date)
-    → is_some_and is_lt (partial_ordering_then (by_numbers a b) (by_day d f)) ≡ before_by a d b f
-before_less a d b f = numbers_then a b (by_day d f) ∙ rw (days_less d f)

@@ -144,12 +144,20 @@ pub fn step(s: &[u8], at: usize) -> IndexEntry
 }
 
 // What is left of two identifiers, from a place within both on, and the days: the first bytes that differ decide, then which identifier ends
-// first, then the days.
+// first, then the days. The order of slices says the same, and takes a third longer.
 fn rest_before(a: &[u8], date: Date, b: &[u8], other: Date, from: usize) -> bool
     requires { (from ≤ length a.now) × (from ≤ length b.now) }
     ensures { result ≡ before_by (drop from a.now) date (drop from b.now) other }
 {
-    (&a[from..], date) < (&b[from..], other)
+    for i in from..a.len().min(b.len()) {
+        if a[i] != b[i] {
+            return a[i] < b[i];
+        }
+    }
+    if a.len() != b.len() {
+        return a.len() < b.len();
+    }
+    date < other
 }
 
 // One identifier and day come before others. Eight bytes are compared at once, as numbers with the first byte highest, as long as both have
