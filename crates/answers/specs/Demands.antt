@@ -351,8 +351,8 @@ pub record Demand3 : Type 0 where
 
 pub record OneOutcome : Type 1 where
   -- where the contract is an equation of the answer, or of a lent element afterwards: it says so by its form. `field`, `find` of the
-  -- index, and the walker's `start` and `step`, hand back a part of what was lent: their contracts are equations of its bytes and of its
-  -- place, which is all that a part is
+  -- index, and the walker's `start` and `next`, hand back a part of what was lent, or the refusal: their contracts are equations of its
+  -- number, and of the part's bytes and place, which is all that a part is
   pub equation : {A : Type 0} (a b of : A) → a ≡ of → b ≡ of → a ≡ b
   -- opening, which answers field by field
   pub opening : (r lent : List ℕ) (a b : ScpOpened) (p q : List ℕ)

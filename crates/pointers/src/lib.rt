@@ -64,7 +64,7 @@ pub fn section_of(rec: &[u8], k: u8) -> &[u8]
     wire::part_of(rec, start_of(rec, k), end_of(rec, k))
 }
 
-// Pointer k is put at its place among the numbers.
+// Pointer k is put at its place among the numbers. (Within the loop of `put_pointers` its law does not close.)
 #[tactic(auto, unfolding(crate::specs::Pointers::pointers_from))]
 fn put_pointer(rec: &[u8], k: u8, pointers: &mut [u32; 192])
     requires { k < 64 }
