@@ -264,8 +264,8 @@ fn pointed(row: &[u32], w: u64) -> usize
     row[first] as usize
 }
 
-// The structure of table t to try first for the bits of a window: its place, and 64 times its prefix's length. The answer is the
-// number found there; nothing says that it is right, and whoever takes it tests it.
+// The structure of table t to try first for the bits of a window: its place, and 64 times its prefix's length, in one number so that it
+// is read at once. The answer is the number found there; nothing says that it is right, and whoever takes it tests it.
 pub fn guess(tab: &[u32], t: usize, w: u64) -> usize
     requires { (length tab.now ≡ room_numbers) × (t < 8) }
     ensures { result ≡ get_or tab.now (guesses_at + t * 256 + w / 2 ^ 56) 0 }

@@ -28,7 +28,8 @@ fn plain(order: usize, place: usize) -> bool
     order == 0 || place < order.min(2)
 }
 
-// The sample that a stored value decodes to, 229,376 added.
+// The sample that a stored value decodes to, 229,376 added. The order is the number of the record's byte, as in `sample_of` of the
+// definitions, which says what every number means.
 pub fn sample_of(order: usize, place: usize, v: usize, last: usize, other: usize) -> usize
     requires { (v < 262144) × (last < 65536) × (other < 65536) }
     ensures { (from_zero 229376 result ≡ sample_of order place (from_zero value_zero v) (from_zero sample_zero last) (from_zero sample_zero other)) × (result < 458752) }
