@@ -146,16 +146,7 @@ pub sized_most : {tables : List (List Structure)} {vs : List ℤ} {bits : ℕ} �
 sized_most (none, f, e) = omega arith
 sized_most (some bs, f, e) = omega arith
 
--- all leads are sized
-pub sized_all : (s2 : List ℕ) (order : ℕ) (counts : List ℕ) (xs : List ℤ) (number : ℕ) (sizes : List ℕ) (k at : ℕ) → k ≡ 0 → at ≡ 0
-    → SizedAs s2 order (cut (drop k counts) (drop at xs)) number (take (length counts - k) (drop k sizes))
-    → SizedAs s2 order (cut counts xs) number (take (length counts) sizes)
-sized_all s2 order counts xs number sizes k at z y S = let e : length counts - 0 ≡ length counts = omega arith in rw (z, y, e) at S
-
--- the places before the last lead's and before the first's
+-- the place behind the last lead's samples
 pub places_start : (counts : List ℕ) (all : ℕ) → all + total (drop (length counts) counts) ≡ all
 unfolding total
 places_start counts all = rw (drop-length counts) (omega arith)
-
-pub places_done : (counts : List ℕ) (k at all : ℕ) → k ≡ 0 → at + total (drop k counts) ≡ all → total counts ≡ all → at ≡ 0
-places_done counts k at all z e sum = let f = rw z at e in omega (arith, f)

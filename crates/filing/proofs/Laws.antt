@@ -5,10 +5,10 @@ use mathlib.Core.Bool.{Bool, true, false, cond, and-eq-true_iff}
 use mathlib.Core.List.{List, [], ◌∷◌, ◌++◌, append_assoc}
 use native.Mathlib.Omega.{arith}
 use lib.Dec.{leb}
-use lib.ListN.{length, get_or, take, drop, set, length-append, length-take, length-drop, take-append-drop, get_or-append}
+use lib.ListN.{length, get_or, take, drop, set, get_or-append}
 use lib.Seq.{take-suc, get_or-take, set_at, length-take-le, drop-cons, take-append-le, take-take, drop_at}
 use borrow.Rule.Slice.PartMut.{put_mid, post_of, Post-is}
-use borrow.Author.Tests.{leb-true, eq-eqb, eqb-true, eqb-false}
+use borrow.Author.Tests.{leb-true, eq-eqb, eqb-false}
 use Rattle.wire.specs.Numbers.{part}
 use Rattle.wire.proofs.Laws.{kept_first}
 use Rattle.record.specs.Opening.{open_refusal, opens}
@@ -61,11 +61,6 @@ all_kept_lem lent used r h =
       room = leb-true (used + entry_size (entry_of r)) (length lent) m.0;
     }
 
--- an opened record has no refusal
-pub opened_none : (r : List ℕ) → opens r ≡ true → open_refusal r ≡ 0
-unfolding opens
-opened_none r h = eqb-true (open_refusal r) 0 h
-
 -- the identifier of an opened record has room in its bits
 pub identifier_room : (r : List ℕ) → open_refusal r ≡ 0 → length (identifier_of r) < 64
 unfolding opens
@@ -106,16 +101,6 @@ moved_byte l j i used size e h g =
     let n : used - i ≡ suc (used - j) = omega arith in
     let more : part l i used ≡ x ∷ part l j used = rw (n, drop-cons l i 0 (omega arith), e) in
     rw (read, whole, more) (set_at front y rest x (i + size) (length-take-le (i + size) l (omega arith)))
-
--- none is yet
-pub moved_none : (l : List ℕ) (used size : ℕ) → used + size ≤ length l → l ≡ moved_on l used used size
-moved_none l used size h =
-    let z : used - used ≡ 0 = omega arith in
-    rw z (sym (take-append-drop (used + size) l))
-
--- the bytes are as many as before
-pub moved_length : (l : List ℕ) (i used size : ℕ) → i ≤ used → used + size ≤ length l → length (moved_on l i used size) ≡ length l
-moved_length l i used size h g = simp (length-append, length-take, length-drop) (omega arith)
 
 -- bytes are put where others were moved on from
 pub put_between : (l zs : List ℕ) (at used size : ℕ) → at ≤ used → used + size ≤ length l
