@@ -249,7 +249,8 @@ fn judge_size(count1: usize, count2: usize, sizes: &[u32], room: usize) -> Resul
     Ok(size as u32)
 }
 
-// Looks for the streams and, if nothing is refused, puts Section 6 where it will be in the record.
+// Looks for the streams and, if nothing is refused, puts Section 6 where it will be in the record. There is no heap, so the sizes have room for
+// the most leads that there can be.
 fn write_found(job: &Job, tab: &[u32], work: &mut [u8], out: &mut [u8]) -> Result<u32, Refusal>
     requires sound { Sound (lent job.now) (length work.old) × CompiledOrNone (tables_given job.now.section2.now) tab.now }
     requires counts_len_bound { (length job.now.counts.now ≤ 32) × (job.now.head.order ≤ 2) }
@@ -352,7 +353,8 @@ fn write(job: &Job, work: &mut [u8], out: &mut [u8]) -> Result<u32, Refusal>
 }
 
 // A job becomes a record at the front of the output. It is Section 1's data with their end mark, Section 2's with no spare byte (empty:
-// none), and of each lead its first sample's number, its count of samples and its ID; the samples of all leads follow one another.
+// none), and of each lead its first sample's number, its count of samples and its ID; the samples of all leads follow one another. Each
+// is a parameter of its own, as C has them.
 pub fn write_record(
     section1: &[u8],
     section2: &[u8],

@@ -17,7 +17,7 @@ ghost use Rattle.index.specs.InnerSteps.{head_right, date_shown, seen, before_by
 use fields::Part;
 use refusals::Refusal;
 
-// An entry as a step shows it: its numbers, where its identifier is, and the place behind it; `more` is 0 where there is none.
+// An entry as a step shows it, and as C reads it: its numbers, where its identifier is, and the place behind it; `more` is 0 where there is none.
 #[repr(C)]
 #[derive(Clone, Copy)]
 pub struct IndexEntry {
@@ -161,7 +161,7 @@ fn rest_before(a: &[u8], date: Date, b: &[u8], other: Date, from: usize) -> bool
 }
 
 // One identifier and day come before others. Eight bytes are compared at once, as numbers with the first byte highest, as long as both have
-// so many.
+// so many: that is faster than one by one.
 pub fn is_before(a: &[u8], date: Date, b: &[u8], other: Date) -> bool
     ensures { result ≡ before_by a.now date b.now other }
 {
