@@ -18,7 +18,7 @@ ghost use Rattle.compose.specs.InnerJob.{lent, Sound, Listed, front_size, count6
 
 use refusals::Refusal;
 
-// The answer of writing a record: 0 or a refusal number, and on a refusal nothing else; the record's length.
+// The answer of writing a record, as C reads it: 0 or a refusal number, and on a refusal nothing else; the record's length.
 #[repr(C)]
 #[derive(Clone, Copy)]
 pub struct Written {
@@ -133,6 +133,9 @@ fn judge_streams(most: usize) -> Result<(), Refusal>
     Refusal::NoCode.unless(most <= search::TOO_LONG)?;
     Refusal::TooLong.unless(most < search::TOO_LONG)
 }
+
+// The functions below ask `Sound` of a job and of the work space beside it, which a call changes: a struct could keep the half on the job
+// alone.
 
 // Every lead's stream is looked for and sized, from the last lead back.
 fn size_streams(job: &Job, tab: &[u32], work: &mut [u8], sizes: &mut [u32]) -> Result<(), Refusal>

@@ -21,7 +21,7 @@ use compiled::Form;
 use packing::Sink;
 use refusals::Refusal;
 
-// The answer of encoding a lead: 0 or a refusal number, and on a refusal nothing else; the stream's bytes and bits.
+// The answer of encoding a lead, as C reads it: 0 or a refusal number, and on a refusal nothing else; the stream's bytes and bits.
 #[repr(C)]
 #[derive(Clone, Copy)]
 pub struct Coded {

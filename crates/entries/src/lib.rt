@@ -1,5 +1,6 @@
 // Sections 3, 4, 5 and 6 judged one by one (01, Leads and samples; refusal 8): leads, streams and the beat's zones. A slice `s` is a
-// section with its header. Every byte string is answered.
+// section with its header. Every byte string is answered. (`wire` reads numbers as usize, for sums; a narrower type here loses no bit, as
+// the check proves of each `as`.)
 #![tactic(auto)]
 
 ghost use Rattle.std.specs.Prelude.{◌≡◌, ◌+◌, ◌*◌, ◌<◌, ◌≤◌, length};

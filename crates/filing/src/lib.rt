@@ -20,7 +20,7 @@ use packing::Sink;
 use record::Opened;
 use refusals::Refusal;
 
-// The answer: the refusal, or 0 and how many bytes of the index are in use now.
+// The answer, as C reads it: the refusal, or 0 and how many bytes of the index are in use now.
 #[repr(C)]
 #[derive(Clone, Copy)]
 pub struct Indexed {
@@ -127,7 +127,7 @@ fn move_on(lent: &mut [u8], at: usize, used: usize, size: usize)
     }
 }
 
-// The numbers of an entry in its first five bytes.
+// The numbers of an entry in its first five bytes, a line each with its bits.
 #[tactic(auto, using(crate::proofs::Laws::none_put))]
 fn put_head(out: &mut [u8], entry: Filed)
     requires { 5 ≤ length out.old }

@@ -10,8 +10,6 @@ use lib.Dec.{leb, eqb}
 use lib.ListN.{length, take, drop, length-drop}
 use lib.Seq.{drop-drop}
 use borrow.Author.Tests.{leb-true, eqb-true}
-use Rattle.std.specs.Prelude.{Option, Some, None}
-use Rattle.wire.proofs.Laws.{unlike}
 use Rattle.index.specs.declared.IndexEntry.{IndexEntry}
 use Rattle.fields.specs.Identifier.{same}
 use Rattle.index.specs.Entry.{Entry, head_size, entry_size, head_number, entry_in, entry_right, is_entry, shown_at, none_at, entry_at}
@@ -83,25 +81,9 @@ pub shown_at_lem : (s : List ℕ) (at : ℕ) (e : IndexEntry) → e ≡ entry_at
 unfolding entry_at
 shown_at_lem s at e is h = rw (is, h) (shown_there s at h)
 
--- so does what is found at a place
-pub found_shown : (s : List ℕ) (at : ℕ) (e : IndexEntry) → Some e ≡ cond (is_entry (drop at s)) (Some (entry_at s at)) None → Shown s at e
-found_shown s at e h = go (is_entry (drop at s)) refl h
-  where
-    go : (b : Bool) → is_entry (drop at s) ≡ b → Some e ≡ cond b (Some (entry_at s at)) None → Shown s at e
-    go true there is = shown_at_lem s at e (cc) there
-    go false there is = unlike cc
-
 -- where there is none, there are none behind it
 pub none_there : (s : List ℕ) (at : ℕ) → is_entry (drop at s) ≡ false → entries_in (drop at s) ≡ []
 none_there s at h = rw (entries_step (drop at s), h)
-
-pub found_none : (s : List ℕ) (at : ℕ) → ◌≡◌ {A = Option IndexEntry} None (cond (is_entry (drop at s)) (Some (entry_at s at)) None)
-    → entries_in (drop at s) ≡ []
-found_none s at h = go (is_entry (drop at s)) refl h
-  where
-    go : (b : Bool) → is_entry (drop at s) ≡ b → ◌≡◌ {A = Option IndexEntry} None (cond b (Some (entry_at s at)) None) → entries_in (drop at s) ≡ []
-    go true there is = unlike cc
-    go false there is = none_there s at there
 
 -- ---- the entries that keep a rule
 

@@ -124,23 +124,17 @@ fn none_at(at: usize) -> IndexEntry
     }
 }
 
-// The entry at a place, if a whole one by the rules is there.
-fn found_at(s: &[u8], at: usize) -> Option<IndexEntry>
-    ensures { result ≡ cond (is_entry (drop at s.now)) (Some (entry_at s.now at)) None }
-{
-    if is_entry(s, at) {
-        Some(entry_at(s, at))
-    } else {
-        None
-    }
-}
-
-// The same as C reads it.
+// The entry at a place, if a whole one by the rules is there. (As an Option it would go through memory at each entry of a walk: a third
+// slower.)
 #[tactic(auto, unfolding(crate::specs::Entry::entry_at))]
 pub fn step(s: &[u8], at: usize) -> IndexEntry
     ensures { result ≡ entry_at s.now at }
 {
-    found_at(s, at).unwrap_or(none_at(at))
+    if is_entry(s, at) {
+        entry_at(s, at)
+    } else {
+        none_at(at)
+    }
 }
 
 // What is left of two identifiers, from a place within both on, and the days: the first bytes that differ decide, then which identifier ends
@@ -217,9 +211,11 @@ pub fn is_index(s: &[u8]) -> bool
 {
     let mut last = none_at(0);
     while last.next < s.len() {
-        let Some(e) = found_at(s, last.next) else {
+        let at = last.next;
+        if !is_entry(s, at) {
             return false;
-        };
+        }
+        let e = entry_at(s, at);
         if stands_before(s, e, last) {
             return false;
         }

@@ -17,7 +17,7 @@ ghost use Rattle.leads.specs.LeadAnswers.{lead_of, lead_answer, out_after, work_
 
 use refusals::Refusal;
 
-// The answer of reading a lead, beside its samples: 0 or a refusal number, and on a refusal nothing else.
+// The answer of reading a lead, beside its samples, as C reads it: 0 or a refusal number, and on a refusal nothing else.
 #[repr(C)]
 #[derive(Clone, Copy, Default)]
 pub struct Lead {
@@ -31,7 +31,7 @@ pub struct Lead {
     pub compared: u32,
 }
 
-// The facts that Sections 3 and 6 give of a lead; on a refusal its number alone.
+// The facts that Sections 3 and 6 give of a lead, as C reads them; on a refusal its number alone.
 #[repr(C)]
 #[derive(Clone, Copy, Default)]
 pub struct Entry {

@@ -25,7 +25,11 @@ pub fn raised(x: i16) -> usize
 fn plain(order: usize, place: usize) -> bool
     ensures { (result ≡ true → 1 ≤ order → place < min order 2) × (result ≡ false → (1 ≤ order) × (min order 2 ≤ place)) }
 {
-    order == 0 || place < order.min(2)
+    match order {
+        0 => true,
+        1 => place < 1,
+        _ => place < 2,
+    }
 }
 
 // The sample that a stored value decodes to, 229,376 added. The order is the number of the record's byte, as in `sample_of` of the

@@ -28,6 +28,7 @@ use index::IndexEntry;
 use leads::{Entry, Lead};
 use refusals::Refusal;
 
+// What C reads of opening: the refusal's number, or 0 and how many pointers there are.
 #[repr(C)]
 #[derive(Clone, Copy)]
 pub struct ScpOpened {
@@ -35,7 +36,7 @@ pub struct ScpOpened {
     pub count: u32,
 }
 
-// A part of the record or of the index lent.
+// A part of the record or of the index lent, as C reads it.
 #[repr(C)]
 #[derive(Clone, Copy)]
 pub struct ScpPart {
@@ -44,7 +45,7 @@ pub struct ScpPart {
     pub length: usize,
 }
 
-// A step of the walk: a field if `more` is 1, else the end.
+// A step of the walk, as C reads it: a field if `more` is 1, else the end.
 #[repr(C)]
 #[derive(Clone, Copy)]
 pub struct ScpStep {

@@ -26,7 +26,8 @@ pub const NO_STREAM: usize = 524282;
 // No structure. The marks lent for the plan have a byte for each sample and table, and an Option would be made and taken apart for each.
 const NONE: usize = 64;
 
-// Room for what is known of the values from -128 to 127: 256 places for each of up to eight tables, each with a structure or `NONE`.
+// Room for what is known of the values from -128 to 127: 256 places for each of up to eight tables, each with a structure or `NONE`. Only
+// `place_of` knows that order, so that a row for each table would make nothing plainer.
 const PLACES: usize = 2048;
 
 // The cost of a code of `bits` bits, where what is left costs a.
