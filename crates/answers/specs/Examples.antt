@@ -2,7 +2,6 @@
 -- -(n + 1): `negsuc 3` is -4.
 use Rattle.std.specs.Prelude.{ℕ, ◌*◌, ◌≤◌, ◌≡◌, true, false, List, [], ◌∷◌, Some, ℤ, pos, negsuc, length, take, drop}
 use Rattle.wire.specs.Numbers.{part}
-
 use Rattle.header.specs.Fields.{step_at}
 use Rattle.bits.specs.Bits.{low_first, bits_in}
 use Rattle.tables.specs.Section2.{tables_in, section2_right}

@@ -208,11 +208,11 @@ pub fn zone_end(s: &[u8], k: u16) -> u32
 
 // How many samples a beat of `ms` milliseconds has.
 #[tactic(auto, unfolding(crate::specs::Section4::samples_in_beat))]
-pub fn samples_in_beat(ms: u16, interval: u16) -> usize
+pub fn samples_in_beat(ms: u16, interval: usize) -> usize
     requires { 0 < interval }
     ensures { (result ≡ samples_in_beat ms interval) × (result ≤ 65535000) }
 {
-    1000 * usize::from(ms) / usize::from(interval)
+    1000 * usize::from(ms) / interval
 }
 
 // Zone k keeps its rule, behind the last sample of the zones before it.

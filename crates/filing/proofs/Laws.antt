@@ -1,12 +1,12 @@
 -- Laws of adding that the proofs cite: what an accepted record keeps, and bytes moved on. Assumes nothing.
-use Prim.Native.Nat.{ℕ, suc, ◌+◌, ◌-◌, ◌≤◌, ◌<◌}
-use mathlib.Core.Path.{◌≡◌, refl, sym, ap, ◌∙◌}
+use Prim.Native.Nat.{ℕ, ◌+◌, ◌-◌, ◌≤◌, ◌<◌}
+use mathlib.Core.Path.{◌≡◌, refl, sym, ◌∙◌}
 use mathlib.Core.Bool.{Bool, true, false, cond, and-eq-true_iff}
-use mathlib.Core.List.{List, [], ◌∷◌, ◌++◌, append_assoc}
+use mathlib.Core.List.{List, [], ◌++◌}
 use native.Mathlib.Omega.{arith}
 use lib.Dec.{leb}
-use lib.ListN.{length, get_or, take, drop, set, get_or-append}
-use lib.Seq.{take-suc, get_or-take, set_at, length-take-le, drop-cons, take-append-le, take-take, drop_at}
+use lib.ListN.{length, take, drop}
+use lib.Seq.{length-take-le, take-append-le, take-take, drop_at}
 use borrow.Rule.Slice.PartMut.{put_mid, post_of, Post-is}
 use borrow.Author.Tests.{leb-true, eq-eqb, eqb-false}
 use Rattle.wire.specs.Numbers.{part}
@@ -83,24 +83,6 @@ date_room month day true h e =
 -- what is in use from i on stands `size` bytes further on
 abbrev pub moved_on : List ℕ → ℕ → ℕ → ℕ → List ℕ
 moved_on l i used size = take (i + size) l ++ (part l i used ++ drop (used + size) l)
-
--- a byte more is moved on
-pub moved_byte : (l : List ℕ) (j i used size : ℕ) → j ≡ suc i → j ≤ used → used + size ≤ length l
-    → set (moved_on l j used size) (i + size) (get_or (moved_on l j used size) i 0) ≡ moved_on l i used size
-moved_byte l j i used size e h g =
-    let x = get_or l i 0 in
-    let y = get_or l (i + size) 0 in
-    let rest = part l j used ++ drop (used + size) l in
-    let front = take (i + size) l in
-    let k : j + size ≡ suc (i + size) = omega arith in
-    let first : take (j + size) l ≡ front ++ (y ∷ []) = ap (λ (n : ℕ). take n l) k ∙ take-suc l (i + size) 0 (omega arith) in
-    let whole : moved_on l j used size ≡ front ++ (y ∷ rest) = ap (λ (k : List ℕ). k ++ rest) first ∙ append_assoc front (y ∷ []) rest in
-    let size-front = length-take-le (j + size) l (omega arith) in
-    let read : get_or (moved_on l j used size) i 0 ≡ x =
-    get_or-append (take (j + size) l) rest 0 i (omega arith) ∙ get_or-take (j + size) l i 0 (omega arith) in
-    let n : used - i ≡ suc (used - j) = omega arith in
-    let more : part l i used ≡ x ∷ part l j used = rw (n, drop-cons l i 0 (omega arith), e) in
-    rw (read, whole, more) (set_at front y rest x (i + size) (length-take-le (i + size) l (omega arith)))
 
 -- bytes are put where others were moved on from
 pub put_between : (l zs : List ℕ) (at used size : ℕ) → at ≤ used → used + size ≤ length l

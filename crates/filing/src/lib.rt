@@ -116,15 +116,13 @@ pub fn place_for(s: &[u8], from: usize, id: &[u8], date: Date) -> usize
     )
 }
 
-// What is in use from a place on moves on by `size` bytes, the last byte first: std has no `copy_within`.
+// What is in use from a place on moves on by `size` bytes.
 fn move_on(lent: &mut [u8], at: usize, used: usize, size: usize)
     requires { (at ≤ used) × (used + size ≤ length lent.old) }
     ensures { lent.new ≡ take (at + size) lent.old
         ++ (part lent.old at used ++ drop (used + size) lent.old) }
 {
-    for i in (at..used).rev() {
-        lent[i + size] = lent[i];
-    }
+    lent.copy_within(at..used, at + size);
 }
 
 // The numbers of an entry in its first five bytes, a line each with its bits.

@@ -42,7 +42,7 @@ pub fn beat_sample_count(rec: &[u8]) -> usize
 {
     let ms = entries::beat_length(pointers::section_of(rec, 4));
     let interval = entries::interval_of(pointers::section_of(rec, 5));
-    entries::samples_in_beat(ms, interval)
+    entries::samples_in_beat(ms, usize::from(interval))
 }
 
 // Sections 4 and 5, where a beat was subtracted.
