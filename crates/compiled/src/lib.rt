@@ -137,7 +137,7 @@ fn put_table(s: &[u8], o: usize, n: usize, tables: usize, tab: &mut [u32; ROOM],
 }
 
 // The default table is put as the first. (One function with `put_table` would take a closure that makes the structures, and its
-// contract would say of each what `tables_right` and `default_structure` say: more than the loop that it saves.)
+// contract would say of each what `structures_right` and `default_structure` say: more than the loop that it saves.)
 fn put_default(tab: &mut [u32; ROOM])
     ensures { Says default_table tab.new 0 }
 {

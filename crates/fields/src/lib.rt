@@ -5,6 +5,7 @@
 ghost use Rattle.std.specs.Prelude.{◌≡◌, ◌+◌, ◌≤◌, length, IfOk};
 ghost use Rattle.refusals.specs.Refusals.{refusal_in, numbered};
 ghost use Rattle.wire.specs.Numbers.{part};
+ghost use Rattle.record.specs.Opening.{open_refusal};
 ghost use Rattle.fields.specs.Lookup.{field_place, walk_place, refusal_of, part_start, part_bytes};
 ghost use Rattle.fields.specs.Identifier.{same};
 ghost use Rattle.fields.specs.Recording.{field_of, identifier_of};
@@ -52,21 +53,24 @@ pub fn field_place(rec: &[u8], tag: u8, occurrence: usize) -> Result<Part, Refus
     opened_place(Opened::new(rec)?, tag, occurrence)
 }
 
-// The bytes of the first field with a tag: that part of the record itself, empty where there is none.
+// The bytes of the first field with a tag, of a record that opens: that part of the record itself, empty where there is none. Here and
+// below the record is lent as it is, and not as `Opened`: programs in Rattle call this crate, and a type that says more would ask more.
 #[tactic(auto, using(crate::proofs::Laws::places), unfolding(crate::specs::Recording::field_of))]
-pub fn field_of<'a>(rec: Opened<'a>, tag: u8) -> &'a [u8]
-    ensures { result.now ≡ field_of rec.entry.bytes.now tag }
+pub fn field_of<'a>(rec: &'a [u8], tag: u8) -> &'a [u8]
+    requires { open_refusal rec.now ≡ 0 }
+    ensures { result.now ≡ field_of rec.now tag }
 {
-    match opened_place(rec, tag, 1) {
-        Ok(place) => place.of(rec.bytes),
-        Err(_) => &[],
+    match opened_place(Opened { bytes: rec }, tag, 1) {
+        Ok(place) => place.of(rec),
+        Err(_) => &rec[..0],
     }
 }
 
-// The patient identifier without its NUL.
+// The patient identifier without its NUL, of a record that opens.
 #[tactic(auto, unfolding(crate::specs::Recording::identifier_of))]
-pub fn identifier_of<'a>(rec: Opened<'a>) -> &'a [u8]
-    ensures { result.now ≡ identifier_of rec.entry.bytes.now }
+pub fn identifier_of<'a>(rec: &'a [u8]) -> &'a [u8]
+    requires { open_refusal rec.now ≡ 0 }
+    ensures { result.now ≡ identifier_of rec.now }
 {
     let bytes = field_of(rec, 2);
     &bytes[..bytes.len().saturating_sub(1)]

@@ -75,7 +75,7 @@ fn leads_of(rec: &[u8]) -> u8
 fn date_of(rec: Opened) -> Date
     ensures { result ≡ date_on rec.entry.bytes.now }
 {
-    let date = fields::field_of(rec, 25);
+    let date = fields::field_of(rec.bytes, 25);
     Date {
         year: wire::number16(date, 0) as u16,
         month: wire::byte(date, 2) as u8,
@@ -95,7 +95,7 @@ fn judge_adding<'a>(lent: &[u8], used: usize, rec: &'a [u8]) -> Result<Filed<'a>
     let date = date_of(opened);
     Refusal::Date.unless(index::date_right(usize::from(date.month), usize::from(date.day)))?;
     let entry = Filed {
-        identifier: fields::identifier_of(opened),
+        identifier: fields::identifier_of(opened.bytes),
         date,
         leads: leads_of(rec),
     };
@@ -146,7 +146,7 @@ fn put_entry(out: &mut [u8], entry: Filed)
     ensures { out.new ≡ entry_bytes (filed_as entry.entry) }
 {
     put_head(out, entry);
-    out[index::HEAD_SIZE..].copy_from_slice(entry.identifier);
+    wire::copy(entry.identifier, &mut out[index::HEAD_SIZE..]);
 }
 
 // An entry is put in at its place.

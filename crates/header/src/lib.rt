@@ -25,12 +25,13 @@ impl Field {
     }
 }
 
-// A step of the walk: the field at a place, or the end.
+// A step of the walk: the field at a place, or the end. Two comparisons of the length, since the compiler learns from them that the bytes
+// are there, and from a difference that stops at 0 it does not: a walk then takes half as long again.
 #[tactic(auto, unfolding(crate::specs::Fields::step_at, crate::specs::Fields::is_field, crate::specs::Fields::field_at))]
 pub fn step_at(s: &[u8], at: usize) -> Option<Field>
     ensures { result ≡ step_at s.now at }
 {
-    if s.len().saturating_sub(at) < 3 || s[at] == 255 {
+    if s.len() <= at || s.len() - at < 3 || s[at] == 255 {
         return None;
     }
     let start = at + 3;

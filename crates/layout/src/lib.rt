@@ -17,7 +17,7 @@ pub fn put_bytes(part: &mut [u8], at: usize, bytes: &[u8])
     ensures { part.new
         ≡ take at part.old ++ (bytes.now ++ drop (at + length bytes.now) part.old) }
 {
-    part[at..at + bytes.len()].copy_from_slice(bytes);
+    wire::copy(bytes, &mut part[at..at + bytes.len()]);
 }
 
 // The check over all that follows it.

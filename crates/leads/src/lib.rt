@@ -119,7 +119,7 @@ impl<'a> Stored<'a> {
         let n = entries::sample_count(pointers::section_of(self.rec, 3), self.k);
         let mut room = [0; N];
         let compared = self.lead_into(&mut room[..n], work)?;
-        out[..n].copy_from_slice(&room[..n]);
+        wire::copy(&room[..n], &mut out[..n]);
         Ok(compared)
     }
 }

@@ -8,9 +8,9 @@ ghost use Rattle.packing.specs.Packing.{packed, bytes_for};
 // A place in the output, and the bits before it that do not fill a byte yet.
 #[derive(Clone, Copy)]
 pub struct Sink {
-    at: usize,
-    acc: u64,
-    part: usize,
+    pub at: usize,
+    pub acc: u64,
+    pub part: usize,
     pub ghost open_byte: { part < 8 },
     pub ghost bits_fit: { acc < 2 ^ part },
 }

@@ -183,7 +183,7 @@ pub fn judge(rec: &[u8]) -> Result<(), Refusal>
     Refusal::HeaderFields.unless(fields_right(rec))
 }
 
-// A record that opens: whoever has one has it from `new`.
+// A record that opens: whoever makes one shows that it does, as `new` does.
 #[derive(Clone, Copy)]
 pub struct Opened<'a> {
     pub bytes: &'a [u8],

@@ -23,14 +23,15 @@ pub const TOO_LONG: usize = 524281;
 
 pub const NO_STREAM: usize = 524282;
 
-// No structure. The marks lent for the plan have a byte for each sample and table, and an Option would be made and taken apart for each.
+// No structure. The marks lent for the plan have a byte for each sample and table.
 const NONE: usize = 64;
 
 // Room for what is known of the values from -128 to 127: 256 places for each of up to eight tables, each with a structure or `NONE`. Only
 // `place_of` knows that order, so that a row for each table would make nothing plainer.
 const PLACES: usize = 2048;
 
-// The cost of a code of `bits` bits, where what is left costs a.
+// The cost of a code of `bits` bits, where what is left costs a. By tests and not by `min`: each cost waits for the one before it, and the
+// processor predicts a test.
 fn join(bits: usize, a: usize) -> usize
     requires { bits ≤ 48 }
     ensures { result ≡ join_of cap bits a }
@@ -38,7 +39,11 @@ fn join(bits: usize, a: usize) -> usize
     if TOO_LONG < a {
         return NO_STREAM;
     }
-    (bits + a).min(TOO_LONG)
+    let sum = bits + a;
+    if sum < TOO_LONG {
+        return sum;
+    }
+    TOO_LONG
 }
 
 // A structure's form has a code for the value, 131,072 added.
@@ -129,7 +134,8 @@ impl<'a> Table<'a> {
     }
 
     // The structure that serves the value, 131,072 added, with the shortest code, and of those the smallest; or `NONE`.
-    fn nearest(self, v: usize) -> usize
+    #[inline(always)]
+    fn look(self, v: usize) -> usize
         ensures { IsNearest self.entry.numbers.now self.entry.t v result }
     {
         let mut best = NONE;
@@ -139,6 +145,18 @@ impl<'a> Table<'a> {
             }
         }
         best
+    }
+
+    // The same. Both branches are equal on purpose: each gets a loop of its own, and for values of one sign the processor predicts its
+    // tests.
+    fn nearest(self, v: usize) -> usize
+        ensures { IsNearest self.entry.numbers.now self.entry.t v result }
+    {
+        if v < bits::VALUE_ZERO {
+            self.look(v)
+        } else {
+            self.look(v)
+        }
     }
 
     // Where it is known what structure is a value's, if it is one from -128 to 127. By two comparisons: this is asked for every sample
@@ -167,6 +185,7 @@ impl<'a> Table<'a> {
 
     // The value's structure, looked for, and known from then on if the value is one from -128 to 127. Apart from `recall`, so that what
     // is done once for a value stays out of the way of what is done for every sample.
+    #[inline(never)]
     fn learn(self, v: usize, known: &mut [u8; PLACES]) -> usize
         requires { Known self.numbers.now known.old }
         ensures { IsNearest self.entry.numbers.now self.entry.t v result × Known self.entry.numbers.now known.new }

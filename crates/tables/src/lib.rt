@@ -169,8 +169,22 @@ pub fn section2_right(s: &[u8], at: usize, spare: usize) -> bool
         && wire::ends_by(s, after_tables(s, at + 2, n), spare)
 }
 
-// Of each structure, which are all values': the prefix's bits, the whole code's, the base value and the base code.
-const DEFAULT: [(usize, usize, usize, usize); 19] = [
+// Structures of values, a row each: the prefix's bits, the whole code's, the base value and the base code.
+macro_rules! values {
+    ($(($prefix:expr, $whole:expr, $base:expr, $code:expr),)*) => {
+        [$(
+            Structure {
+                prefix: $prefix,
+                whole: $whole,
+                mode: 1,
+                base: $base,
+                code: $code,
+            },
+        )*]
+    };
+}
+
+const DEFAULT: [Structure; 19] = values![
     (1, 1, 0, 0),
     (3, 3, 1, 1),
     (3, 3, 65535, 5),
@@ -197,12 +211,5 @@ pub fn default_structure(k: usize) -> Structure
     requires { k < 19 }
     ensures { result ≡ get_or default_table k no_structure }
 {
-    let (prefix, whole, base, code) = DEFAULT[k];
-    Structure {
-        prefix,
-        whole,
-        mode: 1,
-        base,
-        code,
-    }
+    DEFAULT[k]
 }

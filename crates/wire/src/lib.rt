@@ -57,6 +57,17 @@ pub fn part_of<'a>(s: &'a [u8], start: usize, end: usize) -> &'a [u8]
     s.get(start..end.min(s.len())).unwrap_or(&s[..0])
 }
 
+// Elements are copied one by one into as much room. `copy_from_slice` would call `memcpy` or `memmove`: then the archive for C would need a
+// C library, and it needs none but for `memset`.
+pub fn copy<T: Copy>(from: &[T], to: &mut [T])
+    requires { length from.now ≡ length to.old }
+    ensures { to.new ≡ from.now }
+{
+    for i in 0..from.len() {
+        to[i] = from[i];
+    }
+}
+
 // Bytes end at a place, with at most `spare` bytes behind.
 #[tactic(auto, unfolding(crate::specs::RuleWords::ends_by))]
 pub fn ends_by(s: &[u8], end: usize, spare: usize) -> bool

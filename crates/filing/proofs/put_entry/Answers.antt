@@ -27,4 +27,4 @@ returns c =
     let front : take 5 out ≡ head = ap (take 5) first ∙ take_at head (drop 5 c.args.out.now) 5 size in
     let none : post_of 5 (length out - 5) out ≡ [] =
     Post-is 5 (length out) out (omega (arith, long)) ∙ drop_of_length-le out {i = length out} (le_refl _) in
-    rw (c.copy_from_slice.ensures.after, front, none) (ap (λ (l : List ℕ). head ++ l) (append-nil id))
+    rw (c.copy.ensures, front, none) (ap (λ (l : List ℕ). head ++ l) (append-nil id))

@@ -1,0 +1,6 @@
+-- So many elements are copied.
+use Rattle.std.proofs.Common.{◌≡◌, length, take}
+use Rattle.wire.proofs.copy.Given as goal
+
+abbrev pub invariant-loop-i : goal.invariant-loop-i
+invariant-loop-i g l = (length l.to ≡ length l.from) × (take l.i l.to ≡ take l.i l.from)
