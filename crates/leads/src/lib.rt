@@ -50,6 +50,16 @@ pub struct Entry {
 // A lead of at most this many samples is read in small room, since all of the room is cleared first.
 const SMALL_ROOM: usize = 8192;
 
+// A lead's samples go to the output. Out of line: where the compiler sees that the room is a call's own, it makes a call of `memcpy` of
+// the loop.
+#[inline(never)]
+fn put_samples(room: &[i16], out: &mut [i16])
+    requires { length room.now ≡ length out.old }
+    ensures { out.new ≡ room.now }
+{
+    wire::copy(room, out);
+}
+
 // Lead k of a record whose Sections 3 to 6 were judged, and the numbers that hold the record's code tables.
 #[derive(Clone, Copy)]
 struct Stored<'a> {
@@ -119,7 +129,7 @@ impl<'a> Stored<'a> {
         let n = entries::sample_count(pointers::section_of(self.rec, 3), self.k);
         let mut room = [0; N];
         let compared = self.lead_into(&mut room[..n], work)?;
-        wire::copy(&room[..n], &mut out[..n]);
+        put_samples(&room[..n], &mut out[..n]);
         Ok(compared)
     }
 }
