@@ -134,8 +134,7 @@ impl<'a> Table<'a> {
     }
 
     // The structure that serves the value, 131,072 added, with the shortest code, and of those the smallest; or `NONE`.
-    #[inline(always)]
-    fn look(self, v: usize) -> usize
+    fn nearest(self, v: usize) -> usize
         ensures { IsNearest self.entry.numbers.now self.entry.t v result }
     {
         let mut best = NONE;
@@ -145,18 +144,6 @@ impl<'a> Table<'a> {
             }
         }
         best
-    }
-
-    // The same. Both branches are equal on purpose: each gets a loop of its own, and for values of one sign the processor predicts its
-    // tests.
-    fn nearest(self, v: usize) -> usize
-        ensures { IsNearest self.entry.numbers.now self.entry.t v result }
-    {
-        if v < bits::VALUE_ZERO {
-            self.look(v)
-        } else {
-            self.look(v)
-        }
     }
 
     // Where it is known what structure is a value's, if it is one from -128 to 127. By two comparisons: this is asked for every sample
@@ -185,7 +172,6 @@ impl<'a> Table<'a> {
 
     // The value's structure, looked for, and known from then on if the value is one from -128 to 127. Apart from `recall`, so that what
     // is done once for a value stays out of the way of what is done for every sample.
-    #[inline(never)]
     fn learn(self, v: usize, known: &mut [u8; PLACES]) -> usize
         requires { Known self.numbers.now known.old }
         ensures { IsNearest self.entry.numbers.now self.entry.t v result × Known self.entry.numbers.now known.new }

@@ -11,8 +11,8 @@ use Rattle.shortest.specs.InnerRule.{kind_of, structure_of}
 use Rattle.search.specs.InnerSearch.{count_of}
 use Rattle.search.proofs.Laws.{form_there, right_there, small_there}
 use Rattle.search.proofs.Served.{served_skip}
-use Rattle.search.proofs.Table.look.Goals as goal
-use Rattle.search.proofs.Table.look.Goals.{then-serves, else-serves}
+use Rattle.search.proofs.Table.nearest.Goals as goal
+use Rattle.search.proofs.Table.nearest.Goals.{then-serves, else-serves}
 
 pub loop-k-preserved : goal.loop-k-preserved
 loop-k-preserved c = let a = c.args in

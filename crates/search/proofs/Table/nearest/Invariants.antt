@@ -3,7 +3,7 @@ use mathlib.Core.List.{List}
 use Rattle.tables.specs.declared.Structure.{Structure}
 use Rattle.compiled.specs.InnerForm.{Compiled}
 use Rattle.search.specs.InnerSearch.{Place, Served}
-use Rattle.search.proofs.Table.look.Given as goal
+use Rattle.search.proofs.Table.nearest.Given as goal
 
 abbrev pub invariant-loop-k : goal.invariant-loop-k
 invariant-loop-k l = record {
