@@ -30,8 +30,7 @@ const NONE: usize = 64;
 // `place_of` knows that order, so that a row for each table would make nothing plainer.
 const PLACES: usize = 2048;
 
-// The cost of a code of `bits` bits, where what is left costs a. By tests and not by `min`: each cost waits for the one before it, and the
-// processor predicts a test.
+// The cost of a code of `bits` bits, where what is left costs a.
 fn join(bits: usize, a: usize) -> usize
     requires { bits ≤ 48 }
     ensures { result ≡ join_of cap bits a }
@@ -39,11 +38,7 @@ fn join(bits: usize, a: usize) -> usize
     if TOO_LONG < a {
         return NO_STREAM;
     }
-    let sum = bits + a;
-    if sum < TOO_LONG {
-        return sum;
-    }
-    TOO_LONG
+    (bits + a).min(TOO_LONG)
 }
 
 // A structure's form has a code for the value, 131,072 added.
